@@ -1,0 +1,8 @@
+-- What document 01 says of answers, clauses, CNF words and refutations. Nothing here knows of circuits.
+pub mod Lists
+pub mod Limits
+pub mod Answers
+pub mod Clauses
+pub mod CnfWords
+pub mod Refutations
+pub mod Cases

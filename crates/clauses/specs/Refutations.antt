@@ -1,0 +1,198 @@
+-- Document 01, "Refutations": words read as steps, the rule for one step, and the judge for any CNF. Assumes nothing.
+use mathlib.Core.Bool.{Bool, true, false, not, cond, _&&_, _||_}
+use mathlib.Core.List.{List, [], _∷_, _++_, map}
+use Prim.Native.Nat.{ℕ, zero, suc, _+_}
+use lib.IntN.{ℤ, pos, negsuc}
+use lib.Dec.{leb, ltb, eqb}
+use lib.ListN.{length, getD, replicate}
+use Rattle.clauses.specs.Lists.{each, some-of, all-of, those, empty, written}
+use Rattle.clauses.specs.Answers.{Answer, Check, check, first-failing, granted, bad-refutation, area-too-small, step-refused, not-closed}
+use Rattle.clauses.specs.Clauses.{Clause, negated, variable-of, same, among}
+use Rattle.clauses.specs.CnfWords.{ended-by-0, clauses-of, ended, is-0, cnf-checks}
+
+-- ════════ Steps ════════
+
+-- "each step is a clause, 0, hints, 0"
+pub record Step : Type 0 where
+  pub clause : Clause
+  pub hints : List ℕ
+
+abbrev pub step : Clause → List ℕ → Step
+step c hs = record { clause = c; hints = hs }
+
+-- Words ended by 0, two by two: a step's clause and its hints.
+abbrev pub paired : List (List ℤ) → List Step
+paired [] = []
+paired (c ∷ []) = []
+paired (c ∷ hs ∷ rest) = step c (map variable-of hs) ∷ paired rest
+
+abbrev pub steps-of : List ℤ → List Step
+steps-of ws = paired (clauses-of ws)
+
+-- The words of steps.
+abbrev pub step-words : Step → List ℤ
+step-words s = ended-by-0 (s .clause) ++ ended-by-0 (map pos (s .hints))
+
+abbrev pub words-of-steps : List Step → List ℤ
+words-of-steps ss = each ss step-words
+
+-- ════════ 11: the words ════════
+
+-- The part of a step in which a word stands.
+pub data Part : Type 0 where
+  literals hints : Part
+
+abbrev pub is-literals : Part → Bool
+is-literals literals = true
+is-literals hints = false
+
+abbrev pub other : Part → Part
+other literals = hints
+other hints = literals
+
+-- A 0 ends the part.
+abbrev pub part-after : Part → ℤ → Part
+part-after p w = cond (is-0 w) (other p) p
+
+-- "CNF clauses are numbered from 1, steps follow on": the number of the step in which the next word stands.
+abbrev pub own-after : Part → ℕ → ℤ → ℕ
+own-after literals own w = own
+own-after hints own w = cond (is-0 w) (suc own) own
+
+-- A hint is an earlier clause: at least 1, and below the step's own number.
+abbrev pub earlier : ℕ → ℤ → Bool
+earlier own (pos zero) = false
+earlier own (pos (suc h)) = ltb (suc h) own
+earlier own (negsuc h) = false
+
+-- A literal is at most V in size; a hint is an earlier clause.
+abbrev pub word-right : ℕ → Part → ℕ → ℤ → Bool
+word-right variables literals own w = leb (variable-of w) variables
+word-right variables hints own w = is-0 w || earlier own w
+
+abbrev pub word-checks : ℕ → Part → ℕ → ℕ → List ℤ → List Check
+word-checks variables p own i [] = []
+word-checks variables p own i (w ∷ ws) =
+    check (word-right variables p own w) (bad-refutation i)
+    ∷ word-checks variables (part-after p w) (own-after p own w) (suc i) ws
+
+-- The part in which a word after all of these would stand.
+abbrev pub part-at-end : Part → List ℤ → Part
+part-at-end p [] = p
+part-at-end p (w ∷ ws) = part-at-end (part-after p w) ws
+
+-- Not cut short: no step is begun and not ended.
+abbrev pub whole : List ℤ → Bool
+whole ws = ended ws && is-literals (part-at-end literals ws)
+
+-- 11: the first bad word, then cut short (the length), for a CNF of V variables and C clauses.
+unfoldable pub refutation-checks : ℕ → ℕ → List ℤ → List Check
+refutation-checks variables C ws = word-checks variables literals (suc C) 0 ws ++ (check (whole ws) (bad-refutation (length ws)) ∷ [])
+
+-- ════════ The rule for one step ════════
+
+-- The clause of a number; numbers begin at 1.
+abbrev pub clause-numbered : List Clause → ℕ → Clause
+clause-numbered cs zero = []
+clause-numbered cs (suc n) = getD cs n []
+
+-- "a variable with both signs"
+abbrev pub both-signs : Clause → Bool
+both-signs c = some-of (λ w. among (negated w) c) c
+
+-- What is set so far: the literals that are true. A literal is false where its negation is true.
+abbrev pub not-false : List ℤ → Clause → List ℤ
+not-false trues c = those (λ w. not (among (negated w) trues)) c
+
+pub data Outcome : Type 0 where
+  conflict : Outcome
+  unit : ℤ → Outcome
+  neither : Outcome
+
+-- "A clause with all literals false is the conflict"; "if its literals that are not false are all one literal, with no value yet"
+abbrev pub outcome-of : List ℤ → List ℤ → Outcome
+outcome-of trues [] = conflict
+outcome-of trues (u ∷ us) = cond (all-of (same u) us && not (among u trues)) (unit u) neither
+
+abbrev pub outcome : List ℤ → Clause → Outcome
+outcome trues c = outcome-of trues (not-false trues c)
+
+-- What a hint gives: one that names no clause so far gives nothing.
+abbrev pub hint-outcome : List Clause → List ℤ → ℕ → Outcome
+hint-outcome cs trues h =
+    cond (leb 1 h && leb h (length cs)) (outcome trues (clause-numbered cs h)) neither
+
+-- Taking the hints in order: the conflict "must be the last hint"; a unit is set true; "anything else, or no conflict, refuses the step".
+abbrev pub hints-conflict : List Clause → List ℤ → List ℕ → Bool
+hints-conflict cs trues [] = false
+hints-conflict cs trues (h ∷ hs) =
+    elim (hint-outcome cs trues h) [
+      | conflict ↦ empty hs
+      | unit u ↦ hints-conflict cs (u ∷ trues) hs
+      | neither ↦ false
+    ]
+
+-- "A step whose clause has a variable with both signs is refused. Otherwise set its literals false and take the hints in order."
+unfoldable pub step-accepted : List Clause → Step → Bool
+step-accepted cs s = not (both-signs (s .clause)) && hints-conflict cs (map negated (s .clause)) (s .hints)
+
+-- ════════ The judge ════════
+
+-- An accepted step's clause follows the clauses so far.
+abbrev pub clauses-after : List Clause → Step → List Clause
+clauses-after cs s = cs ++ (s .clause ∷ [])
+
+-- 13: the first step that is refused.
+abbrev pub step-checks : List Clause → ℕ → List Step → List Check
+step-checks cs i [] = []
+step-checks cs i (s ∷ ss) = check (step-accepted cs s) (step-refused i) ∷ step-checks (clauses-after cs s) (suc i) ss
+
+abbrev pub last-is-empty-after : Step → List Step → Bool
+last-is-empty-after s [] = empty (s .clause)
+last-is-empty-after s (t ∷ ts) = last-is-empty-after t ts
+
+-- "the last clause is empty"; without a step there is none
+abbrev pub last-is-empty : List Step → Bool
+last-is-empty [] = false
+last-is-empty (s ∷ ss) = last-is-empty-after s ss
+
+-- "Accepted: every step passes and the last clause is empty." 13, then 14 (the number of steps).
+unfoldable pub judge-steps : List Clause → List Step → Answer
+judge-steps cs ss =
+    first-failing (step-checks cs 0 ss ++ (check (last-is-empty ss) (not-closed (length ss)) ∷ [])) (granted 0)
+
+-- "Work areas: one word for each number 0..V, and one for each clause and step."
+abbrev pub numbers-area : ℕ → ℕ
+numbers-area variables = suc variables
+
+abbrev pub clauses-area : List Clause → List Step → ℕ
+clauses-area cs ss = length cs + length ss
+
+-- 12: "the area by numbers 0..V is checked before the area by clauses".
+unfoldable pub area-checks : ℕ → List Clause → List Step → ℕ → ℕ → List Check
+area-checks variables cs ss by-numbers by-clauses =
+    check (leb (numbers-area variables) by-numbers) (area-too-small (numbers-area variables))
+    ∷ check (leb (clauses-area cs ss) by-clauses) (area-too-small (clauses-area cs ss))
+    ∷ []
+
+-- 11, 12, 13, 14 for clauses that are given; the last two numbers are the lengths of the work areas.
+unfoldable pub judge-clauses : ℕ → List Clause → List ℤ → ℕ → ℕ → Answer
+judge-clauses variables cs ws by-numbers by-clauses =
+    first-failing (refutation-checks variables (length cs) ws)
+    (first-failing (area-checks variables cs (steps-of ws) by-numbers by-clauses) (judge-steps cs (steps-of ws)))
+
+-- The judge for a bare CNF: 16 first.
+unfoldable pub judge-cnf : ℕ → List ℤ → List ℤ → ℕ → ℕ → Answer
+judge-cnf variables cnf ws by-numbers by-clauses =
+    first-failing (cnf-checks variables cnf) (judge-clauses variables (clauses-of cnf) ws by-numbers by-clauses)
+
+-- ════════ The work areas after the call ════════
+
+-- The answers at which the steps were judged: yes, 13 and 14.
+abbrev pub judged : Answer → Bool
+judged a = eqb (a .number) 0 || eqb (a .number) 13 || eqb (a .number) 14
+
+-- "When a refutation judge answers 13, 14 or yes, all the needed work words are 0"; other refusals "change no lent buffer";
+-- words past the needed part never change.
+unfoldable pub area-after : Answer → ℕ → List ℕ → List ℕ
+area-after a needed area = cond (judged a) (written (replicate needed 0) area) area
