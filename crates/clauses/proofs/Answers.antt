@@ -1,0 +1,109 @@
+-- Laws of the order of checks: what an answer of yes says of them. Assumes nothing.
+use mathlib.Core.Path.{_≡_, refl, sym, _∙_, ap}
+use mathlib.Core.Bool.{Bool, true, false, not, cond, true≢false}
+use mathlib.Core.List.{List, [], _∷_, _++_}
+use Prim.Native.Nat.{ℕ, suc}
+use lib.IntN.{ℤ}
+use lib.Dec.{eqb}
+use lib.ListN.{length}
+use Rattle.clauses.specs.Lists.{all-of}
+use Rattle.clauses.specs.Answers.{Answer, Check, check, first-failing, granted, not-closed}
+use Rattle.clauses.specs.Clauses.{Clause}
+use Rattle.clauses.specs.CnfWords.{clauses-of, cnf-checks}
+use Rattle.clauses.specs.Refutations.{Step, Part, literals, part-after, own-after, word-checks, refutation-checks, step-checks, area-checks, steps-of, last-is-empty, judge-steps, judge-clauses, judge-cnf}
+use Rattle.clauses.proofs.Satisfaction.{both-true, first-true, second-true, all-of-append, all-of-first, all-of-second, all-of-numbered}
+
+-- ════════ The order of checks ════════
+
+-- The check passes.
+abbrev pub passing : Check → Bool
+passing c = c .passes
+
+-- Where the check fails, the answer is not yes.
+abbrev pub refusing : Check → Bool
+refusing c = not (eqb (c .otherwise .number) 0)
+
+pub first-failing-append : (xs ys : List Check) (after : Answer) → first-failing (xs ++ ys) after ≡ first-failing xs (first-failing ys after)
+first-failing-append [] ys after = refl
+first-failing-append (c ∷ xs) ys after = rw (first-failing-append xs ys after)
+
+pub first-failing-passed : (cs : List Check) (after : Answer) → all-of passing cs ≡ true → first-failing cs after ≡ after
+first-failing-passed [] after e = refl
+first-failing-passed (c ∷ cs) after e =
+    rw (first-true (c .passes) (all-of passing cs) e) (first-failing-passed cs after (second-true (c .passes) (all-of passing cs) e))
+
+-- An answer of yes comes from checks that all pass.
+pub all-pass-if-yes : (cs : List Check) (after : Answer) → all-of refusing cs ≡ true
+    → (first-failing cs after) .number ≡ 0 → all-of passing cs ≡ true
+all-pass-if-yes [] after r e = refl
+all-pass-if-yes (c ∷ cs) after r e =
+    go (c .passes) refl (all-pass-if-yes cs after (second-true (refusing c) (all-of refusing cs) r)) e
+  where
+    go : (b : Bool) → c .passes ≡ b → ((first-failing cs after) .number ≡ 0 → all-of passing cs ≡ true)
+        → (cond b (first-failing cs after) (c .otherwise)) .number ≡ 0 → all-of passing (c ∷ cs) ≡ true
+    go true p rest e′ = both-true p (rest e′)
+    go false p rest e′ = absurd (true≢false (sym (first-true (refusing c) (all-of refusing cs) r) ∙ rw e′))
+
+pub all-pass-if-granted : (cs : List Check) (after : Answer) {p : ℕ} → all-of refusing cs ≡ true
+    → first-failing cs after ≡ granted p → all-of passing cs ≡ true
+all-pass-if-granted cs after r e = all-pass-if-yes cs after r (ap (λ (x : Answer). x .number) e)
+
+-- And it is the answer of what comes after them.
+pub after-if-granted : (cs : List Check) (after : Answer) {p : ℕ} → all-of refusing cs ≡ true
+    → first-failing cs after ≡ granted p → after ≡ granted p
+after-if-granted cs after r e = sym (first-failing-passed cs after (all-pass-if-granted cs after r e)) ∙ e
+
+-- ════════ The judges' checks ════════
+
+pub cnf-checks-refusing : (variables : ℕ) (ws : List ℤ) → all-of refusing (cnf-checks variables ws) ≡ true
+unfolding cnf-checks
+cnf-checks-refusing variables ws = rw all-of-append (both-true (all-of-numbered refusing 0 ws _ (λ i w. refl)) refl)
+
+pub word-checks-refusing : (variables : ℕ) (p : Part) (own i : ℕ) (ws : List ℤ) → all-of refusing (word-checks variables p own i ws) ≡ true
+word-checks-refusing variables p own i [] = refl
+word-checks-refusing variables p own i (w ∷ ws) = word-checks-refusing variables (part-after p w) (own-after p own w) (suc i) ws
+
+pub refutation-checks-refusing : (variables C : ℕ) (ws : List ℤ) → all-of refusing (refutation-checks variables C ws) ≡ true
+unfolding refutation-checks
+refutation-checks-refusing variables C ws = rw all-of-append (both-true (word-checks-refusing variables literals (suc C) 0 ws) refl)
+
+pub area-checks-refusing : (variables : ℕ) (cs : List Clause) (ss : List Step) (m n : ℕ) → all-of refusing (area-checks variables cs ss m n) ≡ true
+unfolding area-checks
+area-checks-refusing variables cs ss m n = refl
+
+pub step-checks-refusing : (cs : List Clause) (i : ℕ) (ss : List Step) → all-of refusing (step-checks cs i ss) ≡ true
+step-checks-refusing cs i [] = refl
+step-checks-refusing cs i (s ∷ ss) = step-checks-refusing _ (suc i) ss
+
+-- The checks of a refutation's steps: each step's, then the last clause's.
+abbrev closing-check : List Step → Check
+closing-check ss = check (last-is-empty ss) (not-closed (length ss))
+
+abbrev all-step-checks : List Clause → List Step → List Check
+all-step-checks cs ss = step-checks cs 0 ss ++ (closing-check ss ∷ [])
+
+all-step-checks-refusing : (cs : List Clause) (ss : List Step) → all-of refusing (all-step-checks cs ss) ≡ true
+all-step-checks-refusing cs ss = rw all-of-append (both-true (step-checks-refusing cs 0 ss) refl)
+
+-- ════════ What a judge's yes says ════════
+
+-- Every step is accepted, and the last clause is empty.
+pub steps-granted : (cs : List Clause) (ss : List Step) {p : ℕ} → judge-steps cs ss ≡ granted p
+    → (all-of passing (step-checks cs 0 ss) ≡ true) × (last-is-empty ss ≡ true)
+unfolding judge-steps
+steps-granted cs ss e =
+    let all = all-pass-if-granted (all-step-checks cs ss) (granted 0) (all-step-checks-refusing cs ss) e in
+    let end = all-of-second passing (step-checks cs 0 ss) (closing-check ss ∷ []) all in
+    (all-of-first passing (step-checks cs 0 ss) (closing-check ss ∷ []) all, first-true (last-is-empty ss) true end)
+
+pub clauses-granted : (variables : ℕ) (cs : List Clause) (ws : List ℤ) (m n : ℕ) {p : ℕ} → judge-clauses variables cs ws m n ≡ granted p
+    → judge-steps cs (steps-of ws) ≡ granted p
+unfolding judge-clauses
+clauses-granted variables cs ws m n e =
+    after-if-granted (area-checks variables cs (steps-of ws) m n) _ (area-checks-refusing variables cs (steps-of ws) m n)
+    (after-if-granted (refutation-checks variables (length cs) ws) _ (refutation-checks-refusing variables (length cs) ws) e)
+
+pub cnf-granted : (variables : ℕ) (cnf ws : List ℤ) (m n : ℕ) {p : ℕ} → judge-cnf variables cnf ws m n ≡ granted p
+    → judge-clauses variables (clauses-of cnf) ws m n ≡ granted p
+unfolding judge-cnf
+cnf-granted variables cnf ws m n e = after-if-granted (cnf-checks variables cnf) _ (cnf-checks-refusing variables cnf) e
