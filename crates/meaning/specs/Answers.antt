@@ -1,0 +1,47 @@
+-- Document 01, "Answers": the rows that a problem, its witness and its job file can meet. Assumes nothing.
+use Prim.Native.Nat.{ℕ}
+use Rattle.clauses.specs.Answers.{Answer, answer}
+
+-- 1: under 5 words, or length not 5+2L+2A+3N; the length
+abbrev pub bad-length : ℕ → Answer
+bad-length = answer 1
+
+-- 2: I, L, A, N or k outside limits; the word
+abbrev pub outside-limits : ℕ → Answer
+outside-limits = answer 2
+
+-- 3: reset over 2; the word
+abbrev pub bad-reset : ℕ → Answer
+bad-reset = answer 3
+
+-- 4: next or gate literal out of range; the word
+abbrev pub bad-literal : ℕ → Answer
+bad-literal = answer 4
+
+-- 5: op, child, atom literal or unused b wrong; the word
+abbrev pub bad-node : ℕ → Answer
+bad-node = answer 5
+
+-- 6: CNF room too small; the words needed
+abbrev pub room-too-small : ℕ → Answer
+room-too-small = answer 6
+
+-- 7: witness length, or a byte out of range; the length, or the byte
+abbrev pub bad-witness : ℕ → Answer
+bad-witness = answer 7
+
+-- 8: latch against its reset; the byte
+abbrev pub against-reset : ℕ → Answer
+against-reset = answer 8
+
+-- 9: loop does not close; the first latch, from 0
+abbrev pub open-loop : ℕ → Answer
+open-loop = answer 9
+
+-- 10: formula false at 0; 0
+abbrev pub formula-false : ℕ → Answer
+formula-false = answer 10
+
+-- 15: job file; see there
+abbrev pub bad-job : ℕ → Answer
+bad-job = answer 15

@@ -1,0 +1,185 @@
+-- Document 01's cases: T whole, the thirteen counts of witnesses, the figures at all limits, each by computing. Assumes nothing.
+use mathlib.Core.Bool.{Bool, true, false}
+use mathlib.Core.List.{List, [], _∷_, _++_, map}
+use mathlib.Core.Path.{_≡_, refl}
+use Prim.Native.Nat.{ℕ, zero, suc, _+_, _*_}
+use lib.Dec.{eqb}
+use lib.IntN.{ℤ, pos, negsuc}
+use lib.ListN.{length, replicate}
+use Rattle.clauses.specs.Lists.{numbers, each, those}
+use Rattle.clauses.specs.Limits.{variables-limit}
+use Rattle.clauses.specs.Answers.{answer}
+use Rattle.clauses.specs.CnfWords.{cnf-checks}
+use Rattle.clauses.specs.Refutations.{judge-clauses, judge-steps, refutation-checks, area-checks, step-accepted}
+use Rattle.meaning.specs.Limits.{inputs-limit, latches-limit, gates-limit, nodes-limit, bound-limit, job-limit, program-room}
+use Rattle.meaning.specs.Problem.{Problem, Left, Node, child, atom, until, release, problem}
+use Rattle.meaning.specs.Check.{known-version, part-checks, parts-checked, problem-checked, check-problem}
+use Rattle.meaning.specs.Runs.{values, next-values}
+use Rattle.meaning.specs.Formulas.{formula}
+use Rattle.meaning.specs.Witnesses.{run, judge-formula, judge-run, judge-bytes, witnesses}
+use Rattle.meaning.specs.Cnf.{variables, cnf, cnf-words}
+use Rattle.meaning.specs.Counts.{variable-count, clause-count, word-count}
+use Rattle.meaning.specs.Calls.{room-checked, write-cnf, judge-witness, judge-of-cnf, judge-refutation}
+use Rattle.meaning.specs.JobFile.{job-words, job-checks, job-checked, bytes-of, decimal, cnf-text, refusal-line, job-answer, printed}
+
+-- ════════ Case T ════════
+
+-- "words 0 1 0 1 0 3 0 0 2 0"
+abbrev pub T-words : List ℕ
+T-words = 0 ∷ 1 ∷ 0 ∷ 1 ∷ 0 ∷ 3 ∷ 0 ∷ 0 ∷ 2 ∷ 0 ∷ []
+
+abbrev minus : ℕ → ℤ
+minus zero = pos 0
+minus (suc n) = negsuc n
+
+abbrev pub T-cnf : List ℤ
+T-cnf =
+    pos 1 ∷ pos 0
+    ∷ minus 2 ∷ pos 0
+    ∷ minus 3 ∷ minus 2 ∷ minus 2 ∷ pos 0
+    ∷ minus 3 ∷ pos 2 ∷ pos 2 ∷ pos 0
+    ∷ minus 4 ∷ pos 2 ∷ pos 0
+    ∷ pos 4 ∷ minus 2 ∷ pos 0
+    ∷ minus 5 ∷ pos 4 ∷ pos 0
+    ∷ pos 5 ∷ minus 4 ∷ pos 0
+    ∷ minus 3 ∷ minus 6 ∷ pos 5 ∷ pos 0
+    ∷ minus 3 ∷ pos 6 ∷ minus 5 ∷ pos 0
+    ∷ minus 6 ∷ pos 3 ∷ pos 0
+    ∷ pos 4 ∷ pos 0
+    ∷ []
+
+T-is-written : cnf-words (problem T-words) ≡ T-cnf
+unfolding problem cnf cnf-words
+T-is-written = refl
+
+T-has-variables : variables (problem T-words) ≡ 6
+unfolding problem variables
+T-has-variables = refl
+
+-- "file starts 01 00 00 00 28"
+abbrev pub T-file : List ℕ
+T-file = 1 ∷ 0 ∷ 0 ∷ 0 ∷ 40 ∷ each T-words (λ w. 0 ∷ 0 ∷ 0 ∷ w ∷ [])
+
+abbrev pub T-text : List ℕ
+T-text =
+    bytes-of "p cnf 6 12\n"
+    ++ bytes-of "1 0\n"
+    ++ bytes-of "-2 0\n"
+    ++ bytes-of "-3 -2 -2 0\n"
+    ++ bytes-of "-3 2 2 0\n"
+    ++ bytes-of "-4 2 0\n"
+    ++ bytes-of "4 -2 0\n"
+    ++ bytes-of "-5 4 0\n"
+    ++ bytes-of "5 -4 0\n"
+    ++ bytes-of "-3 -6 5 0\n"
+    ++ bytes-of "-3 6 -5 0\n"
+    ++ bytes-of "-6 3 0\n"
+    ++ bytes-of "4 0\n"
+
+T-is-printed : printed T-file ≡ T-text
+unfolding problem cnf cnf-words variables known-version inputs-limit latches-limit gates-limit nodes-limit bound-limit part-checks parts-checked problem-checked room-checked write-cnf job-limit program-room job-words job-checks job-checked decimal cnf-text refusal-line job-answer printed
+T-is-printed = refl
+
+-- "refused 15 at 0": a file of another version.
+other-version-is-refused : printed (2 ∷ 0 ∷ 0 ∷ 0 ∷ 0 ∷ []) ≡ bytes-of "refused 15 at 0\n"
+unfolding known-version job-limit job-checks job-checked decimal refusal-line job-answer printed
+other-version-is-refused = refl
+
+-- "Refutation 0 2 12 5 0 is accepted; 0 12 5 0 is refused (13 at 0)."
+T-is-refuted : judge-refutation 1 T-words (pos 0 ∷ pos 2 ∷ pos 12 ∷ pos 5 ∷ pos 0 ∷ []) 38 7 13 ≡ answer 0 0
+unfolding problem cnf cnf-words variables known-version inputs-limit latches-limit gates-limit nodes-limit bound-limit part-checks parts-checked problem-checked room-checked judge-of-cnf judge-refutation judge-clauses judge-steps refutation-checks area-checks step-accepted
+T-is-refuted = refl
+
+T-is-not-refuted : judge-refutation 1 T-words (pos 0 ∷ pos 12 ∷ pos 5 ∷ pos 0 ∷ []) 38 7 13 ≡ answer 13 0
+unfolding problem cnf cnf-words variables known-version inputs-limit latches-limit gates-limit nodes-limit bound-limit part-checks parts-checked problem-checked room-checked judge-of-cnf judge-refutation judge-clauses judge-steps refutation-checks area-checks step-accepted
+T-is-not-refuted = refl
+
+-- ════════ The thirteen counts ════════
+
+-- "H, a two-bit counter: 0 2 4 N k, 3 0, 11 0, 2 5, 3 4, 7 9, 2 4; literal 12 is full."
+abbrev pub H : ℕ → ℕ → List ℕ → List ℕ
+H n k nodes =
+    0 ∷ 2 ∷ 4 ∷ n ∷ k ∷ 3 ∷ 0 ∷ 11 ∷ 0 ∷ 2 ∷ 5 ∷ 3 ∷ 4 ∷ 7 ∷ 9 ∷ 2 ∷ 4 ∷ nodes
+
+abbrev atom-word : ℕ → List ℕ
+atom-word x = 0 ∷ x ∷ 0 ∷ []
+
+-- F, G and X of the node before it.
+abbrev finally : ℕ → List ℕ
+finally a = 4 ∷ a ∷ 0 ∷ []
+
+abbrev always : ℕ → List ℕ
+always a = 5 ∷ a ∷ 0 ∷ []
+
+abbrev next-of : ℕ → List ℕ
+next-of a = 3 ∷ a ∷ 0 ∷ []
+
+abbrev releases : ℕ → ℕ → List ℕ
+releases a b = 7 ∷ a ∷ b ∷ []
+
+-- "One input, k=0"; "one free latch keeping its value, k=0"
+abbrev pub one-input : ℕ → List ℕ → List ℕ
+one-input n nodes = 1 ∷ 0 ∷ 0 ∷ n ∷ 0 ∷ nodes
+
+abbrev pub one-free-latch : ℕ → List ℕ → List ℕ
+one-free-latch n nodes = 0 ∷ 1 ∷ 0 ∷ n ∷ 0 ∷ 2 ∷ 2 ∷ nodes
+
+pub record Case : Type 0 where
+  pub words : List ℕ
+  pub count : ℕ
+
+abbrev case : List ℕ → ℕ → Case
+case ws n = record { words = ws; count = n }
+
+-- "Witnesses: F 12 has none at k=2, 2 at k=3, 3 at k=7; G F 12 has none at 2, 1 at 3; G 13 none at 3; X 2 none at 0, 1 at 1; 12 R 1 none
+-- at 2, 2 at 3. One input, k=0: atom 2 has 2, G 2 has 1. One free latch keeping its value, k=0: G 2 has 1."
+abbrev pub thirteen-cases : List Case
+thirteen-cases =
+    case (H 2 2 (atom-word 12 ++ finally 0)) 0
+    ∷ case (H 2 3 (atom-word 12 ++ finally 0)) 2
+    ∷ case (H 2 7 (atom-word 12 ++ finally 0)) 3
+    ∷ case (H 3 2 (atom-word 12 ++ finally 0 ++ always 1)) 0
+    ∷ case (H 3 3 (atom-word 12 ++ finally 0 ++ always 1)) 1
+    ∷ case (H 2 3 (atom-word 13 ++ always 0)) 0
+    ∷ case (H 2 0 (atom-word 2 ++ next-of 0)) 0
+    ∷ case (H 2 1 (atom-word 2 ++ next-of 0)) 1
+    ∷ case (H 3 2 (atom-word 12 ++ atom-word 1 ++ releases 0 1)) 0
+    ∷ case (H 3 3 (atom-word 12 ++ atom-word 1 ++ releases 0 1)) 2
+    ∷ case (one-input 1 (atom-word 2)) 2
+    ∷ case (one-input 2 (atom-word 2 ++ always 0)) 1
+    ∷ case (one-free-latch 2 (atom-word 2 ++ always 0)) 1
+    ∷ []
+
+-- Each case is well formed, by the check, and has as many witnesses as it says, by the judge.
+thirteen-are-right : map (λ (c : Case). check-problem 1 (c .words)) thirteen-cases ≡ map (λ (c : Case). answer 0 0) thirteen-cases
+unfolding known-version inputs-limit latches-limit gates-limit nodes-limit bound-limit part-checks parts-checked problem-checked check-problem
+thirteen-are-right = refl
+
+thirteen-counts : map (λ (c : Case). length (witnesses (problem (c .words)))) thirteen-cases ≡ map (λ (c : Case). c .count) thirteen-cases
+unfolding problem values next-values formula run judge-formula judge-run judge-bytes witnesses
+thirteen-counts = refl
+
+-- ════════ At all limits ════════
+
+-- "At all limits, with every reset fixed and 63 U or R nodes over one atom"
+abbrev pub at-all-limits : Problem
+unfolding inputs-limit latches-limit gates-limit bound-limit
+at-all-limits = record {
+  inputs = inputs-limit;
+  latches = replicate latches-limit (record { next = 0; reset = 0 });
+  gates = replicate gates-limit (record { left = 0; right = 0 });
+  nodes = atom 0 ∷ (replicate 32 (until (child 0) 0) ++ replicate 31 (release (child 0) 0));
+  bound = bound-limit;
+}
+
+limits-variables : variable-count at-all-limits ≡ 41_057
+unfolding inputs-limit latches-limit gates-limit bound-limit variable-count
+limits-variables = refl
+
+limits-clauses : clause-count at-all-limits ≡ 127_346
+unfolding inputs-limit latches-limit gates-limit bound-limit clause-count
+limits-clauses = refl
+
+limits-words : word-count at-all-limits ≡ 437_012
+unfolding inputs-limit latches-limit gates-limit bound-limit word-count
+limits-words = refl

@@ -1,0 +1,110 @@
+-- Document 01, "Job file and program": the bytes of a job (15), the CNF's text, and what the program prints. Assumes nothing.
+use mathlib.Core.Bool.{Bool, true, false, _&&_, cond}
+use mathlib.Core.List.{List, [], _∷_, _++_, map, foldr}
+use Prim.Native.Nat.{ℕ, zero, suc, _+_, _*_, _-_, _/_, _%_}
+use Prim.Native.Char.{code}
+use Prim.Native.String.{String, [] as no-text, _∷_ as _then_}
+use lib.Dec.{leb, ltb, eqb}
+use lib.IntN.{ℤ, pos, negsuc}
+use lib.ListN.{length, getD, take, drop}
+use Rattle.clauses.specs.Lists.{numbers, each}
+use Rattle.clauses.specs.Answers.{Answer, Check, check, first-failing, granted}
+use Rattle.clauses.specs.Clauses.{Clause}
+use Rattle.meaning.specs.Limits.{job-limit, program-room}
+use Rattle.meaning.specs.Answers.{bad-job}
+use Rattle.meaning.specs.Problem.{Problem, problem}
+use Rattle.meaning.specs.Check.{known-version}
+use Rattle.meaning.specs.Cnf.{cnf, variables}
+use Rattle.meaning.specs.Calls.{write-cnf}
+
+-- ════════ The job file ════════
+
+-- "all big-endian"
+abbrev pub big-endian-after : ℕ → List ℕ → ℕ
+big-endian-after n [] = n
+big-endian-after n (b ∷ bs) = big-endian-after (256 * n + b) bs
+
+abbrev pub number-at : List ℕ → ℕ → ℕ
+number-at bs i = big-endian-after 0 (take 4 (drop i bs))
+
+-- "Version byte 1, a four-byte length of the rest, then the words"
+abbrev pub job-header : ℕ
+job-header = 5
+
+abbrev pub job-version : List ℕ → ℕ
+job-version bs = getD bs 0 0
+
+abbrev pub job-length : List ℕ → ℕ
+job-length bs = number-at bs 1
+
+unfoldable pub job-words : List ℕ → List ℕ
+job-words bs = map (λ i. number-at bs (job-header + 4 * i)) (numbers 0 ((length bs - job-header) / 4))
+
+-- "Refusal 15: more bytes (place 16,384), under 5 (place the length), version (0), length wrong or not a multiple of 4 (1), in this
+-- order."
+unfoldable pub job-checks : List ℕ → List Check
+job-checks bs =
+    check (leb (length bs) job-limit) (bad-job job-limit)
+    ∷ check (leb job-header (length bs)) (bad-job (length bs))
+    ∷ check (eqb (job-version bs) known-version) (bad-job 0)
+    ∷ check (eqb (job-length bs) (length bs - job-header) && eqb (job-length bs % 4) 0) (bad-job 1)
+    ∷ []
+
+-- The answer to the bytes of a job file, and what comes after where they are right.
+unfoldable pub job-checked : List ℕ → Answer → Answer
+job-checked bs after = first-failing (job-checks bs) after
+
+-- ════════ Texts ════════
+
+-- The bytes of a text whose characters are all below 128.
+abbrev pub bytes-of : String → List ℕ
+bytes-of no-text = []
+bytes-of (c then cs) = code c ∷ bytes-of cs
+
+abbrev pub digit : ℕ → ℕ
+digit d = 48 + d
+
+-- A number's decimal digits. It has at most as many digits as the first argument, which only bounds the recursion.
+abbrev pub digits-within : ℕ → ℕ → List ℕ
+digits-within zero n = digit (n % 10) ∷ []
+digits-within (suc m) n =
+    elim (ltb n 10) [
+      | true ↦ digit n ∷ []
+      | false ↦ digits-within m (n / 10) ++ (digit (n % 10) ∷ [])
+    ]
+
+unfoldable pub decimal : ℕ → List ℕ
+decimal n = digits-within n n
+
+abbrev pub signed-decimal : ℤ → List ℕ
+signed-decimal (pos n) = decimal n
+signed-decimal (negsuc n) = bytes-of "-" ++ decimal (suc n)
+
+-- One clause a line, one space between words, 0 at each line's end.
+abbrev pub clause-line : Clause → List ℕ
+clause-line c = each c (λ w. signed-decimal w ++ bytes-of " ") ++ bytes-of "0\n"
+
+-- `p cnf V C`
+abbrev pub header-line : ℕ → ℕ → List ℕ
+header-line v c = bytes-of "p cnf " ++ decimal v ++ bytes-of " " ++ decimal c ++ bytes-of "\n"
+
+unfoldable pub cnf-text : ℕ → List Clause → List ℕ
+cnf-text v cs = header-line v (length cs) ++ each cs clause-line
+
+-- "A refusal prints its number and place, as `refused 15 at 0`, and a newline."
+unfoldable pub refusal-line : Answer → List ℕ
+refusal-line a = bytes-of "refused " ++ decimal (a .number) ++ bytes-of " at " ++ decimal (a .place) ++ bytes-of "\n"
+
+-- ════════ The program ════════
+
+-- The answer to a job: 15, 1 to 6, or yes.
+unfoldable pub job-answer : List ℕ → Answer
+job-answer bs = job-checked bs (write-cnf (job-version bs) (job-words bs) program-room)
+
+-- What the program prints for its standard input.
+unfoldable pub printed : List ℕ → List ℕ
+printed bs =
+    elim (eqb (job-answer bs .number) 0) [
+      | true ↦ cnf-text (variables (problem (job-words bs))) (cnf (problem (job-words bs)))
+      | false ↦ refusal-line (job-answer bs)
+    ]

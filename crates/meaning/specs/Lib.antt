@@ -1,0 +1,14 @@
+-- Document 01, one module for each of its sections: the problem, its runs and meaning, witnesses, the CNF, refutations, the job file.
+pub mod Limits
+pub mod Answers
+pub mod Problem
+pub mod Check
+pub mod Runs
+pub mod Formulas
+pub mod Bounded
+pub mod Witnesses
+pub mod Cnf
+pub mod Counts
+pub mod Calls
+pub mod JobFile
+pub mod Cases
