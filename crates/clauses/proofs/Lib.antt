@@ -1,0 +1,3 @@
+-- Laws of what document 01 says of clauses, CNF words and refutations.
+pub mod Satisfaction
+pub mod ReadBack

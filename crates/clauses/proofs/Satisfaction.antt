@@ -1,0 +1,217 @@
+-- Laws of tests, of lists, of literals and of satisfaction. Assumes nothing.
+use mathlib.Core.Path.{_≡_, refl, sym, _∙_, ap}
+use mathlib.Core.Logic.{_⊎_, inl, inr}
+use mathlib.Core.Bool.{Bool, true, false, not, _&&_, _||_, false≢true, true≢false, and-assoc, or-assoc, Bool·not-not, cond}
+use mathlib.Core.List.{List, [], _∷_, _++_, map, List·Memᴰ, List·Memᴰ·head, List·Memᴰ·tail, Memᴰ·cast}
+use Prim.Native.Nat.{ℕ, zero, suc, _<_, _≤_, zero-le, suc-le-suc}
+use native.Mathlib.Nat.{le-of-suc-le-suc, not-suc-le-zero}
+use lib.IntN.{ℤ, pos, negsuc, negℤ-negℤ}
+use lib.Dec.{T, leb, eqb, leb→le, le→leb, eqb→eq, eqb-refl}
+use lib.ListN.{getD, length}
+use Rattle.clauses.specs.Lists.{some-of, all-of, those, numbered, each}
+use Rattle.clauses.specs.Clauses.{Clause, Assignment, negated, literal-true, clause-true, all-true, Satisfies, same, among}
+use Rattle.clauses.specs.CnfWords.{is-0}
+
+-- ════════ Tests ════════
+
+pub passed : {b : Bool} → T b → b ≡ true
+passed {b = true} t = refl
+passed {b = false} t = absurd t
+
+pub passes-test : {b : Bool} → b ≡ true → T b
+passes-test {b = true} e = tt
+passes-test {b = false} e = absurd (false≢true e)
+
+pub both-true : {a b : Bool} → a ≡ true → b ≡ true → a && b ≡ true
+both-true p q = rw (p, q)
+
+pub first-true : (a b : Bool) → a && b ≡ true → a ≡ true
+first-true true b e = refl
+first-true false b e = e
+
+pub second-true : (a b : Bool) → a && b ≡ true → b ≡ true
+second-true true b e = e
+second-true false b e = absurd (false≢true e)
+
+pub one-true : (a b : Bool) → a || b ≡ true → (a ≡ true) ⊎ (b ≡ true)
+one-true true b e = inl refl
+one-true false b e = inr e
+
+pub or-first : {a : Bool} (b : Bool) → a ≡ true → a || b ≡ true
+or-first b p = rw p
+
+pub or-second : (a : Bool) {b : Bool} → b ≡ true → a || b ≡ true
+or-second true p = refl
+or-second false p = p
+
+pub neither-first : (a b : Bool) → a || b ≡ false → a ≡ false
+neither-first true b e = e
+neither-first false b e = refl
+
+pub neither-second : (a b : Bool) → a || b ≡ false → b ≡ false
+neither-second true b e = absurd (true≢false e)
+neither-second false b e = e
+
+pub not-true : (b : Bool) → not b ≡ true → b ≡ false
+not-true true e = sym e
+not-true false e = refl
+
+pub not-both : {b : Bool} → b ≡ true → b ≡ false → ⊥
+not-both p q = true≢false (sym p ∙ q)
+
+pub false-if-not-true : (b : Bool) → (b ≡ true → ⊥) → b ≡ false
+false-if-not-true true h = absurd (h refl)
+false-if-not-true false h = refl
+
+pub le-if-leb : (m n : ℕ) → leb m n ≡ true → m ≤ n
+le-if-leb m n e = leb→le m n (passes-test e)
+
+pub leb-if-le : (m n : ℕ) → m ≤ n → leb m n ≡ true
+leb-if-le m n h = passed (le→leb m n h)
+
+pub eq-if-eqb : (m n : ℕ) → eqb m n ≡ true → m ≡ n
+eq-if-eqb m n e = eqb→eq m n (passes-test e)
+
+pub eqb-self : (n : ℕ) → eqb n n ≡ true
+eqb-self n = passed (eqb-refl n)
+
+-- ════════ Tests on lists ════════
+
+module _ {A : Type 0} (f : A → Bool) where
+  pub all-of-append : (xs ys : List A) → all-of f (xs ++ ys) ≡ all-of f xs && all-of f ys
+  all-of-append [] ys = refl
+  all-of-append (x ∷ xs) ys = rw (all-of-append xs ys, and-assoc (f x))
+
+  pub some-of-append : (xs ys : List A) → some-of f (xs ++ ys) ≡ some-of f xs || some-of f ys
+  some-of-append [] ys = refl
+  some-of-append (x ∷ xs) ys = rw (some-of-append xs ys, or-assoc (f x))
+
+  -- By place.
+  pub all-of-at : (xs : List A) (i : ℕ) (d : A) → all-of f xs ≡ true → i < length xs → f (getD xs i d) ≡ true
+  all-of-at [] i d e l = absurd (not-suc-le-zero l)
+  all-of-at (x ∷ xs) zero d e l = first-true (f x) (all-of f xs) e
+  all-of-at (x ∷ xs) (suc i) d e l = all-of-at xs i d (second-true (f x) (all-of f xs) e) (le-of-suc-le-suc l)
+
+  pub all-of-if-at : (xs : List A) (d : A) → ((i : ℕ) → i < length xs → f (getD xs i d) ≡ true) → all-of f xs ≡ true
+  all-of-if-at [] d h = refl
+  all-of-if-at (x ∷ xs) d h = both-true (h 0 (suc-le-suc zero-le)) (all-of-if-at xs d (λ i l. h (suc i) (suc-le-suc l)))
+
+  pub some-of-at : (xs : List A) (i : ℕ) (d : A) → i < length xs → f (getD xs i d) ≡ true → some-of f xs ≡ true
+  some-of-at [] i d l e = absurd (not-suc-le-zero l)
+  some-of-at (x ∷ xs) zero d l e = or-first (some-of f xs) e
+  some-of-at (x ∷ xs) (suc i) d l e = or-second (f x) (some-of-at xs i d (le-of-suc-le-suc l) e)
+
+  -- By element.
+  pub all-of-member : {x : A} {xs : List A} → List·Memᴰ x xs → all-of f xs ≡ true → f x ≡ true
+  all-of-member (List·Memᴰ·head {x = y} {xs = ys} p) e = rw p (first-true (f y) (all-of f ys) e)
+  all-of-member (List·Memᴰ·tail {x = y} {xs = ys} m) e = all-of-member m (second-true (f y) (all-of f ys) e)
+
+  pub all-of-if-member : (xs : List A) → ((x : A) → List·Memᴰ x xs → f x ≡ true) → all-of f xs ≡ true
+  all-of-if-member [] h = refl
+  all-of-if-member (x ∷ xs) h =
+      both-true (h x (List·Memᴰ·head refl)) (all-of-if-member xs (λ y m. h y (List·Memᴰ·tail m)))
+
+  pub some-of-member : {x : A} {xs : List A} → List·Memᴰ x xs → f x ≡ true → some-of f xs ≡ true
+  some-of-member (List·Memᴰ·head {x = y} {xs = ys} p) e = or-first (some-of f ys) (rw p at e)
+  some-of-member (List·Memᴰ·tail {x = y} {xs = ys} m) e = or-second (f y) (some-of-member m e)
+
+  pub some-of-witness : (xs : List A) → some-of f xs ≡ true → (x : A) × List·Memᴰ x xs × (f x ≡ true)
+  some-of-witness [] e = absurd (false≢true e)
+  some-of-witness (x ∷ xs) e = go (one-true (f x) (some-of f xs) e) (some-of-witness xs)
+    where
+      go : (f x ≡ true) ⊎ (some-of f xs ≡ true) → (some-of f xs ≡ true → (y : A) × List·Memᴰ y xs × (f y ≡ true))
+          → (y : A) × List·Memᴰ y (x ∷ xs) × (f y ≡ true)
+      go (inl p) later = (x, List·Memᴰ·head refl, p)
+      go (inr q) later = let w = later q in (w .0, List·Memᴰ·tail (w .1), w .2)
+
+  pub none-of-member : {x : A} {xs : List A} → List·Memᴰ x xs → some-of f xs ≡ false → f x ≡ false
+  none-of-member {x} m e = false-if-not-true (f x) (λ p. not-both (some-of-member m p) e)
+
+  -- An element that passes is one of those that do.
+  pub those-member : {x : A} {xs : List A} → List·Memᴰ x xs → f x ≡ true → List·Memᴰ x (those f xs)
+  those-member (List·Memᴰ·head p) e = rw (rw p at e) (List·Memᴰ·head p)
+  those-member (List·Memᴰ·tail {x = y} m) e = in-either (f y) (those-member m e)
+    where
+      in-either : (b : Bool) {x : A} {xs : List A} → List·Memᴰ x xs → List·Memᴰ x (cond b (y ∷ xs) xs)
+      in-either true m′ = List·Memᴰ·tail m′
+      in-either false m′ = m′
+
+  pub those-pass : (xs : List A) → all-of f (those f xs) ≡ true
+  those-pass [] = refl
+  those-pass (x ∷ xs) = go (f x) refl (those-pass xs)
+    where
+      go : (b : Bool) → f x ≡ b → all-of f (those f xs) ≡ true → all-of f (cond b (x ∷ those f xs) (those f xs)) ≡ true
+      go true p rest = both-true p rest
+      go false p rest = rest
+
+  -- Each of the elements made from numbered ones passes.
+  pub all-of-numbered : {B : Type 0} (i : ℕ) (xs : List B) (g : ℕ → B → A) → ((j : ℕ) (x : B) → f (g j x) ≡ true) → all-of f (numbered i xs g) ≡ true
+  all-of-numbered i [] g h = refl
+  all-of-numbered i (x ∷ xs) g h = both-true (h i x) (all-of-numbered (suc i) xs g h)
+
+  pub all-of-map : {B : Type 0} (g : B → A) (xs : List B) → all-of f (map g xs) ≡ all-of (λ x. f (g x)) xs
+  all-of-map g [] = refl
+  all-of-map g (x ∷ xs) = rw (all-of-map g xs)
+
+  pub some-of-map : {B : Type 0} (g : B → A) (xs : List B) → some-of f (map g xs) ≡ some-of (λ x. f (g x)) xs
+  some-of-map g [] = refl
+  some-of-map g (x ∷ xs) = rw (some-of-map g xs)
+
+-- ════════ Literals ════════
+
+pub same-self : (w : ℤ) → same w w ≡ true
+same-self (pos n) = eqb-self n
+same-self (negsuc n) = eqb-self n
+
+pub eq-if-same : (w v : ℤ) → same w v ≡ true → w ≡ v
+eq-if-same (pos m) (pos n) e = ap pos (eq-if-eqb m n e)
+eq-if-same (pos m) (negsuc n) e = absurd (false≢true e)
+eq-if-same (negsuc m) (pos n) e = absurd (false≢true e)
+eq-if-same (negsuc m) (negsuc n) e = ap negsuc (eq-if-eqb m n e)
+
+pub among-if-member : {w : ℤ} {ws : List ℤ} → List·Memᴰ w ws → among w ws ≡ true
+among-if-member {w} m = some-of-member (same w) m (same-self w)
+
+pub member-if-among : (w : ℤ) (ws : List ℤ) → among w ws ≡ true → List·Memᴰ w ws
+member-if-among w ws e = let v = some-of-witness (same w) ws e in Memᴰ·cast (eq-if-same w (v .0) (v .2)) (v .1)
+
+pub negated-negated : (w : ℤ) → negated (negated w) ≡ w
+negated-negated = negℤ-negℤ
+
+pub negated-0 : (w : ℤ) → is-0 w ≡ true → negated w ≡ w
+negated-0 (pos zero) e = refl
+negated-0 (pos (suc n)) e = absurd (false≢true e)
+negated-0 (negsuc n) e = absurd (false≢true e)
+
+module _ (a : Assignment) where
+  pub literal-true-negated : (w : ℤ) → is-0 w ≡ false → literal-true a (negated w) ≡ not (literal-true a w)
+  literal-true-negated (pos zero) e = absurd (true≢false e)
+  literal-true-negated (pos (suc n)) e = refl
+  literal-true-negated (negsuc n) e = sym (Bool·not-not (getD a n false))
+
+  -- The word 0 included.
+  pub not-true-both-ways : (w : ℤ) → literal-true a w ≡ true → literal-true a (negated w) ≡ true → ⊥
+  not-true-both-ways (pos zero) p q = false≢true p
+  not-true-both-ways (pos (suc n)) p q = not-both p (not-true (getD a n false) q)
+  not-true-both-ways (negsuc n) p q = not-both q (not-true (getD a n false) p)
+
+  -- ════════ Satisfaction ════════
+
+  pub satisfies-append : (cs ds : List Clause) → Satisfies a cs → Satisfies a ds → Satisfies a (cs ++ ds)
+  satisfies-append cs ds p q = all-of-append (clause-true a) cs ds ∙ both-true p q
+
+  pub satisfies-first : (cs ds : List Clause) → Satisfies a (cs ++ ds) → Satisfies a cs
+  satisfies-first cs ds e = first-true (all-true a cs) (all-true a ds) (rw all-of-append at e)
+
+  pub satisfies-second : (cs ds : List Clause) → Satisfies a (cs ++ ds) → Satisfies a ds
+  satisfies-second cs ds e = second-true (all-true a cs) (all-true a ds) (rw all-of-append at e)
+
+  pub clause-at-true : (cs : List Clause) (i : ℕ) → Satisfies a cs → i < length cs → clause-true a (getD cs i []) ≡ true
+  clause-at-true cs i = all-of-at (clause-true a) cs i []
+
+  -- Of a true clause some literal is true.
+  pub true-literal : (c : Clause) → clause-true a c ≡ true → (w : ℤ) × List·Memᴰ w c × (literal-true a w ≡ true)
+  true-literal = some-of-witness (literal-true a)
+
+  pub false-literal : {w : ℤ} {c : Clause} → List·Memᴰ w c → clause-true a c ≡ false → literal-true a w ≡ false
+  false-literal = none-of-member (literal-true a)
