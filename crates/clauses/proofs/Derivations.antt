@@ -1,16 +1,15 @@
 -- Steps that are right one after another: accepted, their literals within the variables, their hints earlier clauses.
 -- Such steps that end in the empty clause are a refutation. Assumes nothing.
-use mathlib.Core.Path.{_≡_, refl, sym, _∙_, ap}
-use mathlib.Core.Bool.{Bool, true, false, _&&_, false≢true}
+use mathlib.Core.Path.{_≡_, refl, _∙_}
+use mathlib.Core.Bool.{Bool, true, _&&_, false≢true}
 use mathlib.Core.List.{List, [], _∷_, _++_, map}
-use Prim.Native.Nat.{ℕ, zero, suc, _+_, _≤_, _<_}
+use Prim.Native.Nat.{ℕ, zero, suc, _≤_, _<_}
 use native.Mathlib.Numerals.{add-one}
 use native.Mathlib.Nat.{le-refl, le-trans, lt-of-lt-of-le}
 use native.Mathlib.Omega.{arith}
 use lib.IntN.{ℤ, pos, negsuc}
 use lib.Dec.{leb, leb·zero, leb·suc-suc}
 use lib.ListN.{length, getD, length-append, List·getD-append}
-use lib.Seq.{getD-append-seam}
 use Rattle.clauses.specs.Lists.{all-of}
 use Rattle.clauses.specs.Answers.{Answer, Check, first-failing, granted}
 use Rattle.clauses.specs.Clauses.{Clause, variable-of, literal-within}
@@ -18,7 +17,7 @@ use Rattle.clauses.specs.CnfWords.{ended-by-0}
 use Rattle.clauses.specs.Refutations.{Step, step, words-of-steps, Part, literals, hints, part-after, own-after, word-right, word-checks, refutation-checks, step-accepted, clauses-after, step-checks, last-is-empty, last-is-empty-after, judge-steps}
 use Rattle.clauses.specs.Refutable.{Refutation}
 use Rattle.clauses.proofs.Satisfaction.{both-true, first-true, second-true, all-of-member, all-of-if-member}
-use Rattle.clauses.proofs.ReadBack.{not-0, step-no-zeros, StepsNoZeros, step-first, steps-back, steps-whole}
+use Rattle.clauses.proofs.ReadBack.{not-0, StepsNoZeros, step-first, steps-back, steps-whole}
 
 -- ════════ Clauses after steps ════════
 

@@ -2,3 +2,5 @@
 pub mod Satisfaction
 pub mod ReadBack
 pub mod Derivations
+pub mod Splits
+pub mod Complete

@@ -9,8 +9,8 @@ use lib.Dec.{leb}
 use Rattle.clauses.specs.Lists.{all-of, empty}
 use Rattle.clauses.specs.Clauses.{Clause, variable-of}
 use Rattle.clauses.specs.CnfWords.{ended-by-0, words-of, in-front, clauses-of, is-0, ended-after, ended}
-use Rattle.clauses.specs.Refutations.{Step, step, paired, steps-of, step-words, words-of-steps, Part, literals, hints, is-literals, other, part-after, part-at-end, whole}
-use Rattle.clauses.proofs.Satisfaction.{both-true, first-true, second-true, not-true, not-both}
+use Rattle.clauses.specs.Refutations.{Step, steps-of, step-words, words-of-steps, Part, literals, hints, other, part-at-end, whole}
+use Rattle.clauses.proofs.Satisfaction.{first-true, second-true, not-true, not-both}
 
 -- ════════ Words that are no 0 ════════
 

@@ -8,19 +8,19 @@ use native.Mathlib.Nat.{le-of-suc-le-suc, not-suc-le-zero}
 use lib.IntN.{ℤ, pos, negsuc, negℤ-negℤ}
 use lib.Dec.{T, leb, eqb, leb→le, le→leb, eqb→eq, eqb-refl}
 use lib.ListN.{getD, length}
-use Rattle.clauses.specs.Lists.{some-of, all-of, those, numbered, each}
-use Rattle.clauses.specs.Clauses.{Clause, Assignment, negated, literal-true, clause-true, all-true, Satisfies, same, among}
+use Rattle.clauses.specs.Lists.{some-of, all-of, those, numbered}
+use Rattle.clauses.specs.Clauses.{Clause, Assignment, negated, literal-true, clause-true, Satisfies, same, among}
 use Rattle.clauses.specs.CnfWords.{is-0}
 
 -- ════════ Tests ════════
 
-pub passed : {b : Bool} → T b → b ≡ true
-passed {b = true} t = refl
-passed {b = false} t = absurd t
+pub true-if-test : {b : Bool} → T b → b ≡ true
+true-if-test {b = true} t = refl
+true-if-test {b = false} t = absurd t
 
-pub passes-test : {b : Bool} → b ≡ true → T b
-passes-test {b = true} e = tt
-passes-test {b = false} e = absurd (false≢true e)
+pub test-if-true : {b : Bool} → b ≡ true → T b
+test-if-true {b = true} e = tt
+test-if-true {b = false} e = absurd (false≢true e)
 
 pub both-true : {a b : Bool} → a ≡ true → b ≡ true → a && b ≡ true
 both-true p q = rw (p, q)
@@ -64,16 +64,16 @@ false-if-not-true true h = absurd (h refl)
 false-if-not-true false h = refl
 
 pub le-if-leb : (m n : ℕ) → leb m n ≡ true → m ≤ n
-le-if-leb m n e = leb→le m n (passes-test e)
+le-if-leb m n e = leb→le m n (test-if-true e)
 
 pub leb-if-le : (m n : ℕ) → m ≤ n → leb m n ≡ true
-leb-if-le m n h = passed (le→leb m n h)
+leb-if-le m n h = true-if-test (le→leb m n h)
 
 pub eq-if-eqb : (m n : ℕ) → eqb m n ≡ true → m ≡ n
-eq-if-eqb m n e = eqb→eq m n (passes-test e)
+eq-if-eqb m n e = eqb→eq m n (test-if-true e)
 
 pub eqb-self : (n : ℕ) → eqb n n ≡ true
-eqb-self n = passed (eqb-refl n)
+eqb-self n = true-if-test (eqb-refl n)
 
 -- ════════ Tests on lists ════════
 
@@ -85,6 +85,12 @@ module _ {A : Type 0} (f : A → Bool) where
   pub some-of-append : (xs ys : List A) → some-of f (xs ++ ys) ≡ some-of f xs || some-of f ys
   some-of-append [] ys = refl
   some-of-append (x ∷ xs) ys = rw (some-of-append xs ys, or-assoc (f x))
+
+  pub all-of-first : (xs ys : List A) → all-of f (xs ++ ys) ≡ true → all-of f xs ≡ true
+  all-of-first xs ys e = first-true (all-of f xs) (all-of f ys) (rw all-of-append at e)
+
+  pub all-of-second : (xs ys : List A) → all-of f (xs ++ ys) ≡ true → all-of f ys ≡ true
+  all-of-second xs ys e = second-true (all-of f xs) (all-of f ys) (rw all-of-append at e)
 
   -- By place.
   pub all-of-at : (xs : List A) (i : ℕ) (d : A) → all-of f xs ≡ true → i < length xs → f (getD xs i d) ≡ true
@@ -100,6 +106,15 @@ module _ {A : Type 0} (f : A → Bool) where
   some-of-at [] i d l e = absurd (not-suc-le-zero l)
   some-of-at (x ∷ xs) zero d l e = or-first (some-of f xs) e
   some-of-at (x ∷ xs) (suc i) d l e = or-second (f x) (some-of-at xs i d (le-of-suc-le-suc l) e)
+
+  pub some-of-place : (xs : List A) (d : A) → some-of f xs ≡ true → (i : ℕ) × (i < length xs) × (f (getD xs i d) ≡ true)
+  some-of-place [] d e = absurd (false≢true e)
+  some-of-place (x ∷ xs) d e = go (one-true (f x) (some-of f xs) e) (some-of-place xs d)
+    where
+      go : (f x ≡ true) ⊎ (some-of f xs ≡ true) → (some-of f xs ≡ true → (i : ℕ) × (i < length xs) × (f (getD xs i d) ≡ true))
+          → (i : ℕ) × (i < suc (length xs)) × (f (getD (x ∷ xs) i d) ≡ true)
+      go (inl p) later = (0, suc-le-suc zero-le, p)
+      go (inr q) later = let w = later q in (suc (w .0), suc-le-suc (w .1), w .2)
 
   -- By element.
   pub all-of-member : {x : A} {xs : List A} → List·Memᴰ x xs → all-of f xs ≡ true → f x ≡ true
@@ -145,7 +160,8 @@ module _ {A : Type 0} (f : A → Bool) where
       go false p rest = rest
 
   -- Each of the elements made from numbered ones passes.
-  pub all-of-numbered : {B : Type 0} (i : ℕ) (xs : List B) (g : ℕ → B → A) → ((j : ℕ) (x : B) → f (g j x) ≡ true) → all-of f (numbered i xs g) ≡ true
+  pub all-of-numbered : {B : Type 0} (i : ℕ) (xs : List B) (g : ℕ → B → A) → ((j : ℕ) (x : B) → f (g j x) ≡ true)
+      → all-of f (numbered i xs g) ≡ true
   all-of-numbered i [] g h = refl
   all-of-numbered i (x ∷ xs) g h = both-true (h i x) (all-of-numbered (suc i) xs g h)
 
@@ -189,22 +205,23 @@ module _ (a : Assignment) where
   literal-true-negated (pos (suc n)) e = refl
   literal-true-negated (negsuc n) e = sym (Bool·not-not (getD a n false))
 
-  -- The word 0 included.
+  -- A literal and its negation are not both true; the word 0 neither.
   pub not-true-both-ways : (w : ℤ) → literal-true a w ≡ true → literal-true a (negated w) ≡ true → ⊥
   not-true-both-ways (pos zero) p q = false≢true p
   not-true-both-ways (pos (suc n)) p q = not-both p (not-true (getD a n false) q)
   not-true-both-ways (negsuc n) p q = not-both q (not-true (getD a n false) p)
 
-  -- ════════ Satisfaction ════════
+-- ════════ Satisfaction ════════
 
+module _ (a : Assignment) where
   pub satisfies-append : (cs ds : List Clause) → Satisfies a cs → Satisfies a ds → Satisfies a (cs ++ ds)
   satisfies-append cs ds p q = all-of-append (clause-true a) cs ds ∙ both-true p q
 
   pub satisfies-first : (cs ds : List Clause) → Satisfies a (cs ++ ds) → Satisfies a cs
-  satisfies-first cs ds e = first-true (all-true a cs) (all-true a ds) (rw all-of-append at e)
+  satisfies-first = all-of-first (clause-true a)
 
   pub satisfies-second : (cs ds : List Clause) → Satisfies a (cs ++ ds) → Satisfies a ds
-  satisfies-second cs ds e = second-true (all-true a cs) (all-true a ds) (rw all-of-append at e)
+  satisfies-second = all-of-second (clause-true a)
 
   pub clause-at-true : (cs : List Clause) (i : ℕ) → Satisfies a cs → i < length cs → clause-true a (getD cs i []) ≡ true
   clause-at-true cs i = all-of-at (clause-true a) cs i []
