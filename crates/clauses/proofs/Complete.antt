@@ -1,5 +1,4 @@
--- For every CNF that no assignment satisfies there are steps that the rule accepts, ending in the empty clause: each value of each
--- variable in turn is denied. Assumes nothing.
+-- A CNF that no assignment satisfies has a refutation: each value of each variable in turn is denied. Assumes nothing.
 use mathlib.Core.Path.{_≡_, refl, _∙_}
 use mathlib.Core.Bool.{Bool, true, false, true≢false}
 use mathlib.Core.List.{List, [], _∷_, _++_}
@@ -13,7 +12,7 @@ use Rattle.clauses.specs.Clauses.{Clause, Assignment, clause-true, all-t
 use Rattle.clauses.specs.Refutations.{Step, step}
 use Rattle.clauses.specs.Refutable.{Refutation}
 use Rattle.clauses.proofs.Satisfaction.{false-if-not-true, all-of-at}
-use Rattle.clauses.proofs.Derivations.{clauses-after-all, clauses-after-append, Extends, extends-self, extends-twice, extends-after-all, RightSteps, right-append, refutation-by}
+use Rattle.clauses.proofs.Derivations.{clauses-after-all, clauses-after-append, Extends, extends-self, extends-twice, extends-after-all, RightStep, RightSteps, right-append, last-empty, refutation-by}
 use Rattle.clauses.proofs.Splits.{denials, leaf-right, split-right}
 
 -- ════════ A clause that is false ════════
@@ -54,6 +53,30 @@ module _ {variables : ℕ} {cs : List Clause} {c : Clause} (d : Derived variable
 
 -- ════════ Values denied in turn ════════
 
+-- From either value of variable i + 1 denied.
+module _ {variables : ℕ} {cs : List Clause} (i : ℕ) (bs : List Bool) (d : Derived variables cs (denials i (false ∷ bs)))
+    (e : Derived variables (clauses-after-all cs (all-steps d)) (denials i (true ∷ bs))) where
+  after-both : Extends (clauses-after-all cs (all-steps d)) (clauses-after-all (clauses-after-all cs (all-steps d)) (all-steps e))
+  after-both = extends-after-all (clauses-after-all cs (all-steps d)) (all-steps e)
+
+  last-step : suc i + length bs ≤ variables
+      → RightStep variables (clauses-after-all (clauses-after-all cs (all-steps d)) (all-steps e))
+      (step (denials (suc i) bs) (suc (last-place d) ∷ suc (last-place e) ∷ []))
+  last-step l =
+      split-right variables (clauses-after-all (clauses-after-all cs (all-steps d)) (all-steps e)) i bs (last-place d) (last-place e) l
+      (lt-of-lt-of-le (last-there d) (after-both .longer)) (last-there e)
+      (after-both .kept (last-place d) (last-there d) ∙ last-clause d) (last-clause e)
+
+  split : suc i + length bs ≤ variables → Derived variables cs (denials (suc i) bs)
+  split l = record {
+    before = all-steps d ++ all-steps e;
+    last-hints = suc (last-place d) ∷ suc (last-place e) ∷ [];
+    right =
+        right-append variables cs (all-steps d ++ all-steps e) _
+        (right-append variables cs (all-steps d) (all-steps e) (d .right) (e .right))
+        (rw (clauses-after-append cs (all-steps d) (all-steps e)) (last-step l, tt));
+  }
+
 module _ (variables : ℕ) (formula : List Clause) (within : Within variables formula)
     (unsatisfied : (a : Assignment) → length a ≡ variables → Satisfies a formula → ⊥) where
   leaf : (a : Assignment) → length a ≡ variables → (cs : List Clause) → Extends formula cs → Derived variables cs (denials 0 a)
@@ -71,28 +94,14 @@ module _ (variables : ℕ) (formula : List Clause) (within : Within variables fo
         );
       }
 
-  split : (i : ℕ) (bs : List Bool) (cs : List Clause) → suc i + length bs ≤ variables → (d : Derived variables cs (denials i (false ∷ bs)))
-      → Derived variables (clauses-after-all cs (all-steps d)) (denials i (true ∷ bs)) → Derived variables cs (denials (suc i) bs)
-  split i bs cs l d e = record {
-    before = all-steps d ++ all-steps e;
-    last-hints = suc (last-place d) ∷ suc (last-place e) ∷ [];
-    right = right-append variables cs (all-steps d ++ all-steps e) _ (right-append variables cs (all-steps d) (all-steps e) (d .right) (e .right))
-        (rw (clauses-after-append cs (all-steps d) (all-steps e)) (
-          split-right variables (clauses-after-all (clauses-after-all cs (all-steps d)) (all-steps e)) i bs (last-place d) (last-place e) l
-              (lt-of-lt-of-le (last-there d) (x .longer)) (last-there e) (x .kept (last-place d) (last-there d) ∙ last-clause d) (last-clause e),
-          tt,
-        ));
-  }
-    where
-      x : Extends (clauses-after-all cs (all-steps d)) (clauses-after-all (clauses-after-all cs (all-steps d)) (all-steps e))
-      x = extends-after-all (clauses-after-all cs (all-steps d)) (all-steps e)
-
-  derived : (left : ℕ) (bs : List Bool) (cs : List Clause) → left + length bs ≡ variables → Extends formula cs → Derived variables cs (denials left bs)
+  -- Values of variables left + 1, .. are given.
+  derived : (left : ℕ) (bs : List Bool) (cs : List Clause) → left + length bs ≡ variables → Extends formula cs
+      → Derived variables cs (denials left bs)
   derived zero bs cs l x = leaf bs (omega arith) cs x
   derived (suc i) bs cs l x =
       let d = derived i (false ∷ bs) cs (omega arith) x in
-      split i bs cs (omega arith) d
-      (derived i (true ∷ bs) (clauses-after-all cs (all-steps d)) (omega arith) (extends-twice x (extends-after-all cs (all-steps d))))
+      let y = extends-twice x (extends-after-all cs (all-steps d)) in
+      split i bs d (derived i (true ∷ bs) (clauses-after-all cs (all-steps d)) (omega arith) y) (omega arith)
 
 -- ════════ The theorem ════════
 
@@ -100,4 +109,4 @@ pub refutable : (variables : ℕ) (cs : List Clause) → Within variables cs
     → ((a : Assignment) → length a ≡ variables → Satisfies a cs → ⊥) → Refutation variables cs
 refutable variables cs within unsatisfied =
     let d = derived variables cs within unsatisfied variables [] cs (omega arith) (extends-self cs) in
-    refutation-by variables cs (d .before) (d .last-hints) (d .right)
+    refutation-by variables cs (all-steps d) (d .right) (last-empty (d .before) (d .last-hints))

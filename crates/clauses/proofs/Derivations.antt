@@ -1,5 +1,4 @@
--- Steps that are right one after another: accepted, their literals within the variables, their hints earlier clauses.
--- Such steps that end in the empty clause are a refutation. Assumes nothing.
+-- Steps that are right one after another; those that end in the empty clause are a refutation. Assumes nothing.
 use mathlib.Core.Path.{_≡_, refl, _∙_}
 use mathlib.Core.Bool.{Bool, true, _&&_, false≢true}
 use mathlib.Core.List.{List, [], _∷_, _++_, map}
@@ -25,7 +24,8 @@ abbrev pub clauses-after-all : List Clause → List Step → List Clause
 clauses-after-all cs [] = cs
 clauses-after-all cs (s ∷ ss) = clauses-after-all (clauses-after cs s) ss
 
-pub clauses-after-append : (cs : List Clause) (ss ts : List Step) → clauses-after-all cs (ss ++ ts) ≡ clauses-after-all (clauses-after-all cs ss) ts
+pub clauses-after-append : (cs : List Clause) (ss ts : List Step)
+    → clauses-after-all cs (ss ++ ts) ≡ clauses-after-all (clauses-after-all cs ss) ts
 clauses-after-append cs [] ts = refl
 clauses-after-append cs (s ∷ ss) ts = clauses-after-append (clauses-after cs s) ss ts
 
@@ -62,6 +62,7 @@ extends-after-all cs (s ∷ ss) = extends-twice (extends-after cs s) (extends-af
 abbrev pub names-one-of : ℕ → ℕ → Bool
 names-one-of n h = leb 1 h && leb h n
 
+-- Accepted, its literals within the variables, its hints earlier clauses.
 pub record RightStep (variables : ℕ) (cs : List Clause) (s : Step) : Type 0 where
   pub accepted : step-accepted cs s ≡ true
   pub within : all-of (literal-within variables) (s .clause) ≡ true
@@ -82,7 +83,7 @@ last-after : (t : Step) (ss : List Step) (hs : List ℕ) → last-is-empty-after
 last-after t [] hs = refl
 last-after t (s ∷ ss) hs = last-after s ss hs
 
-last-empty : (ss : List Step) (hs : List ℕ) → last-is-empty (ss ++ (step [] hs ∷ [])) ≡ true
+pub last-empty : (ss : List Step) (hs : List ℕ) → last-is-empty (ss ++ (step [] hs ∷ [])) ≡ true
 last-empty [] hs = refl
 last-empty (s ∷ ss) hs = last-after s ss hs
 
@@ -100,7 +101,8 @@ words-right variables p own [] = true
 words-right variables p own (w ∷ ws) =
     word-right variables p own w && words-right variables (part-after p w) (own-after p own w) ws
 
-all-of-weaker : {A : Type 0} (f g : A → Bool) → ((x : A) → f x ≡ true → g x ≡ true) → (xs : List A) → all-of f xs ≡ true → all-of g xs ≡ true
+all-of-weaker : {A : Type 0} (f g : A → Bool) → ((x : A) → f x ≡ true → g x ≡ true)
+    → (xs : List A) → all-of f xs ≡ true → all-of g xs ≡ true
 all-of-weaker f g h xs e = all-of-if-member g xs (λ x m. h x (all-of-member f m e))
 
 module _ (variables : ℕ) where
@@ -114,7 +116,8 @@ module _ (variables : ℕ) where
 
   small-literal : (w : ℤ) (c : Clause) → all-of (literal-within variables) (w ∷ c) ≡ true → leb (variable-of w) variables ≡ true
   small-literal w c e =
-      second-true (leb 1 (variable-of w)) (leb (variable-of w) variables) (first-true (literal-within variables w) (all-of (literal-within variables) c) e)
+      second-true (leb 1 (variable-of w)) (leb (variable-of w) variables)
+      (first-true (literal-within variables w) (all-of (literal-within variables) c) e)
 
   small-rest : (w : ℤ) (c : Clause) → all-of (literal-within variables) (w ∷ c) ≡ true → all-of (literal-within variables) c ≡ true
   small-rest w c = second-true (literal-within variables w) (all-of (literal-within variables) c)
@@ -158,22 +161,24 @@ module _ (variables : ℕ) where
 
   right-no-zeros : (cs : List Clause) (ss : List Step) → RightSteps variables cs ss → StepsNoZeros ss
   right-no-zeros cs [] r = refl
-  right-no-zeros cs (s ∷ ss) r = both-true
-      (both-true
-      (all-of-weaker (literal-within variables) not-0 within-not-0 (s .clause) (r .0 .within))
-      (all-of-weaker (names-one-of (length cs)) (leb 1) (λ h. first-true (leb 1 h) (leb h (length cs))) (s .hints) (r .0 .earlier)))
-      (right-no-zeros (clauses-after cs s) ss (r .1))
+  right-no-zeros cs (s ∷ ss) r = both-true (both-true no-0 at-least-1) (right-no-zeros (clauses-after cs s) ss (r .1))
+    where
+      no-0 : all-of not-0 (s .clause) ≡ true
+      no-0 = all-of-weaker (literal-within variables) not-0 within-not-0 (s .clause) (r .0 .within)
+
+      at-least-1 : all-of (leb 1) (s .hints) ≡ true
+      at-least-1 =
+          all-of-weaker (names-one-of (length cs)) (leb 1) (λ h. first-true (leb 1 h) (leb h (length cs))) (s .hints) (r .0 .earlier)
 
   -- ════════ Right steps that end in the empty clause ════════
 
-  pub refutation-by : (cs : List Clause) (ss : List Step) (hs : List ℕ) → RightSteps variables cs (ss ++ (step [] hs ∷ [])) → Refutation variables cs
+  pub refutation-by : (cs : List Clause) (ss : List Step) → RightSteps variables cs ss → last-is-empty ss ≡ true → Refutation variables cs
   unfolding judge-steps refutation-checks
-  refutation-by cs ss hs r = record {
-    steps = ss ++ (step [] hs ∷ []);
-    accepted = step-checks-pass variables _ (granted 0) cs 0 (ss ++ (step [] hs ∷ [])) r ∙ rw (last-empty ss hs);
-    read-back = steps-back (ss ++ (step [] hs ∷ [])) (right-no-zeros cs (ss ++ (step [] hs ∷ [])) r);
+  refutation-by cs ss r e = record {
+    steps = ss;
+    accepted = step-checks-pass variables _ (granted 0) cs 0 ss r ∙ rw e;
+    read-back = steps-back ss (right-no-zeros cs ss r);
     words-right =
-        word-checks-pass literals (suc (length cs)) 0 (words-of-steps (ss ++ (step [] hs ∷ []))) _ (granted 0)
-        (steps-right cs (ss ++ (step [] hs ∷ [])) r)
-        ∙ rw (steps-whole (ss ++ (step [] hs ∷ [])) (right-no-zeros cs (ss ++ (step [] hs ∷ [])) r));
+        word-checks-pass literals (suc (length cs)) 0 (words-of-steps ss) _ (granted 0) (steps-right cs ss r)
+        ∙ rw (steps-whole ss (right-no-zeros cs ss r));
   }

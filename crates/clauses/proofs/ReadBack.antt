@@ -113,7 +113,8 @@ hints-back (h ∷ hs) = ap (λ (ks : List ℕ). h ∷ ks) (hints-back hs)
 pub step-first : (s : Step) (ws : List ℤ) → step-words s ++ ws ≡ ended-by-0 (s .clause) ++ (ended-by-0 (map pos (s .hints)) ++ ws)
 step-first s ws = append-assoc (ended-by-0 (s .clause)) (ended-by-0 (map pos (s .hints))) ws
 
-part-after-clause : (p : Part) (c : Clause) (ws : List ℤ) → all-of not-0 c ≡ true → part-at-end p (ended-by-0 c ++ ws) ≡ part-at-end (other p) ws
+part-after-clause : (p : Part) (c : Clause) (ws : List ℤ) → all-of not-0 c ≡ true
+    → part-at-end p (ended-by-0 c ++ ws) ≡ part-at-end (other p) ws
 part-after-clause p [] ws e = refl
 part-after-clause p (pos zero ∷ c) ws e = absurd (false≢true e)
 part-after-clause p (pos (suc n) ∷ c) ws e = part-after-clause p c ws e

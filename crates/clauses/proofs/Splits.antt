@@ -1,5 +1,4 @@
--- The clause that denies values of variables: the rule accepts it from a clause that is false under them, and from the two
--- clauses that deny those values and either value of one variable more. Assumes nothing.
+-- The clause that denies values of variables, and when the rule accepts it. Assumes nothing.
 use mathlib.Core.Path.{_≡_, refl, sym, _∙_, ap}
 use mathlib.Core.Logic.{_⊎_, inl, inr}
 use mathlib.Core.Bool.{Bool, true, false, not, false≢true, Bool·not-not}
@@ -41,11 +40,13 @@ denials-above : (i : ℕ) (bs : List Bool) {w : ℤ} → List·Memᴰ w (denials
 denials-above i [] m = absurd (List·Memᴰ·not-nil m)
 denials-above i (b ∷ bs) {w} m = go (List·Memᴰ·cases-cons m) (λ m′. denials-above (suc i) bs m′)
   where
-    go : (w ≡ denial i b) ⊎ List·Memᴰ w (denials (suc i) bs) → (List·Memᴰ w (denials (suc i) bs) → suc i < variable-of w) → i < variable-of w
+    go : (w ≡ denial i b) ⊎ List·Memᴰ w (denials (suc i) bs) → (List·Memᴰ w (denials (suc i) bs) → suc i < variable-of w)
+        → i < variable-of w
     go (inl p) above = rw (p, variable-of-denial i b) (omega arith)
     go (inr m′) above = let l = above m′ in omega arith
 
-pub denials-within : (variables i : ℕ) (bs : List Bool) → i + length bs ≤ variables → all-of (literal-within variables) (denials i bs) ≡ true
+pub denials-within : (variables i : ℕ) (bs : List Bool) → i + length bs ≤ variables
+    → all-of (literal-within variables) (denials i bs) ≡ true
 denials-within variables i [] l = refl
 denials-within variables i (b ∷ bs) l =
     rw (variable-of-denial i b, leb-if-le 1 (suc i) (omega arith), leb-if-le (suc i) variables (omega arith))
@@ -96,15 +97,19 @@ member-of-negated : (w : ℤ) (c : Clause) → List·Memᴰ w (map negated c) �
 member-of-negated w [] m = absurd (List·Memᴰ·not-nil m)
 member-of-negated w (v ∷ c) m = go (List·Memᴰ·cases-cons m) (member-of-negated w c)
   where
-    go : (w ≡ negated v) ⊎ List·Memᴰ w (map negated c) → (List·Memᴰ w (map negated c) → List·Memᴰ (negated w) c) → List·Memᴰ (negated w) (v ∷ c)
+    go : (w ≡ negated v) ⊎ List·Memᴰ w (map negated c) → (List·Memᴰ w (map negated c) → List·Memᴰ (negated w) c)
+        → List·Memᴰ (negated w) (v ∷ c)
     go (inl p) later = List·Memᴰ·head (ap negated p ∙ negated-negated v)
     go (inr m′) later = List·Memᴰ·tail (later m′)
 
 -- A variable before those of the values has no value yet.
 no-value-yet : (i : ℕ) (bs : List Bool) (w : ℤ) → variable-of w ≤ i → among w (map negated (denials i bs)) ≡ false
-no-value-yet i bs w l = false-if-not-true (among w (map negated (denials i bs))) (λ e.
-    let m = denials-above i bs (member-of-negated w (denials i bs) (member-if-among w (map negated (denials i bs)) e)) in
-    omega (arith, variable-of-negated w))
+no-value-yet i bs w l = false-if-not-true (among w (map negated (denials i bs))) set
+  where
+    set : among w (map negated (denials i bs)) ≡ true → ⊥
+    set e =
+        let m = denials-above i bs (member-of-negated w (denials i bs) (member-if-among w (map negated (denials i bs)) e)) in
+        omega (arith, variable-of-negated w)
 
 -- ════════ Hints ════════
 
@@ -120,11 +125,13 @@ module _ (cs : List Clause) (trues : List ℤ) (n : ℕ) (l : n < length cs) whe
 
   unit-at : (u : ℤ) (hs : List ℕ) → not-false trues (getD cs n []) ≡ u ∷ [] → among u trues ≡ false
       → hints-conflict cs trues (suc n ∷ hs) ≡ hints-conflict cs (u ∷ trues) hs
-  unit-at u hs e f = let g : hint-outcome cs trues (suc n) ≡ unit u = hint-taken ∙ ap (outcome-of trues) e ∙ rw f in rw (g, hints-conflict)
+  unit-at u hs e f =
+      let g : hint-outcome cs trues (suc n) ≡ unit u = hint-taken ∙ ap (outcome-of trues) e ∙ rw f in
+      rw (g, hints-conflict)
 
 -- ════════ The rule accepts denials ════════
 
--- A literal within the values that they make false is one of the denials.
+-- The literal that the value of a variable makes false is one of the denials.
 value-denied : (i v : ℕ) (bs : List Bool) → v < length bs → List·Memᴰ (denial (i + v) (getD bs v false)) (denials i bs)
 value-denied i v [] l = absurd (not-suc-le-zero l)
 value-denied i zero (b ∷ bs) l = List·Memᴰ·head (ap (λ (k : ℕ). denial k b) (add-zero i))
@@ -146,11 +153,16 @@ module _ (variables : ℕ) (cs : List Clause) where
       → clause-true a (getD cs n []) ≡ false → RightStep variables cs (step (denials 0 a) (suc n ∷ []))
   unfolding step-accepted
   leaf-right a n e l w f = record {
-    accepted = both-true (denials-one-sign 0 a) (conflict-at cs (map negated (denials 0 a)) n l
-        (none-not-false (map negated (denials 0 a)) (getD cs n []) (λ v m. Memᴰ·map negated (false-literal-denied a v (all-of-member (literal-within (length a)) m (rw (← e) at w)) (false-literal a m f)))));
+    accepted = both-true (denials-one-sign 0 a) (conflict-at cs (map negated (denials 0 a)) n l all-false);
     within = denials-within variables 0 a (omega arith);
     earlier = both-true (names-clause cs [] n l) refl;
   }
+    where
+      denied : (v : ℤ) → List·Memᴰ v (getD cs n []) → List·Memᴰ v (denials 0 a)
+      denied v m = false-literal-denied a v (all-of-member (literal-within (length a)) m (rw (← e) at w)) (false-literal a m f)
+
+      all-false : not-false (map negated (denials 0 a)) (getD cs n []) ≡ []
+      all-false = none-not-false (map negated (denials 0 a)) (getD cs n []) (λ v m. Memᴰ·map negated (denied v m))
 
   -- The two clauses that deny either value of variable i + 1 too.
   pub split-right : (i : ℕ) (bs : List Bool) (m n : ℕ) → suc i + length bs ≤ variables → m < length cs → n < length cs
@@ -158,12 +170,20 @@ module _ (variables : ℕ) (cs : List Clause) where
       → RightStep variables cs (step (denials (suc i) bs) (suc m ∷ suc n ∷ []))
   unfolding step-accepted
   split-right i bs m n l lm ln p q = record {
-    accepted = both-true (denials-one-sign (suc i) bs)
-        (unit-at cs (map negated (denials (suc i) bs)) m lm (pos (suc i)) (suc n ∷ []) first (no-value-yet (suc i) bs (pos (suc i)) (le-refl (suc i)))
-        ∙ conflict-at cs (pos (suc i) ∷ map negated (denials (suc i) bs)) n ln (rw q (self-denied (denials i (true ∷ bs)))));
+    accepted = both-true (denials-one-sign (suc i) bs) (first-hint ∙ second-hint);
     within = denials-within variables (suc i) bs l;
     earlier = both-true (names-clause cs [] m lm) (both-true (names-clause cs [] n ln) refl);
   }
     where
-      first : not-false (map negated (denials (suc i) bs)) (getD cs m []) ≡ pos (suc i) ∷ []
-      first = rw (p, no-value-yet (suc i) bs (negsuc i) (le-refl (suc i)), self-denied (denials (suc i) bs))
+      trues : List ℤ
+      trues = map negated (denials (suc i) bs)
+
+      one-left : not-false trues (getD cs m []) ≡ pos (suc i) ∷ []
+      one-left = rw (p, no-value-yet (suc i) bs (negsuc i) (le-refl (suc i)), self-denied (denials (suc i) bs))
+
+      first-hint : hints-conflict cs trues (suc m ∷ suc n ∷ []) ≡ hints-conflict cs (pos (suc i) ∷ trues) (suc n ∷ [])
+      first-hint =
+          unit-at cs trues m lm (pos (suc i)) (suc n ∷ []) one-left (no-value-yet (suc i) bs (pos (suc i)) (le-refl (suc i)))
+
+      second-hint : hints-conflict cs (pos (suc i) ∷ trues) (suc n ∷ []) ≡ true
+      second-hint = conflict-at cs (pos (suc i) ∷ trues) n ln (rw q (self-denied (denials i (true ∷ bs))))
