@@ -1,4 +1,4 @@
--- Laws of what document 01 says of clauses, CNF words and refutations.
+-- What follows from the definitions of specs/.
 pub mod Satisfaction
 pub mod ReadBack
 pub mod Derivations
