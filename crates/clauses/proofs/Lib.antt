@@ -2,3 +2,7 @@
 pub mod Satisfaction
 pub mod Answers
 pub mod Sound
+pub mod ReadBack
+pub mod Derivations
+pub mod Splits
+pub mod Complete

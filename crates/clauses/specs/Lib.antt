@@ -5,4 +5,5 @@ pub mod Answers
 pub mod Clauses
 pub mod CnfWords
 pub mod Refutations
+pub mod Refutable
 pub mod Cases
