@@ -1,20 +1,20 @@
 -- The check says yes exactly to well-formed words, decides them, and their problem is proper. Assumes nothing.
 use mathlib.Core.Path.{_≡_, refl, sym, _∙_, ap}
 use mathlib.Core.Logic.{_↔_}
-use mathlib.Core.Bool.{Bool, true, false, _&&_, true≢false}
-use mathlib.Core.List.{List, [], _∷_, _++_, map}
-use Prim.Native.Nat.{ℕ, zero, suc, _+_, _*_, _≤_, _<_}
+use mathlib.Core.Bool.{Bool, true, false, true≢false}
+use mathlib.Core.List.{List, [], _∷_, _++_}
+use Prim.Native.Nat.{ℕ, zero, suc, _+_, _*_, _<_}
 use native.Mathlib.Omega.{arith}
-use lib.Dec.{leb, ltb, eqb, lit<}
+use lib.Dec.{leb, eqb, lit<}
 use lib.ListN.{length, getD}
 use Rattle.clauses.specs.Lists.{numbers, each, all-of}
 use Rattle.clauses.specs.Answers.{Answer, Check, check, first-failing, granted}
 use Rattle.clauses.proofs.Satisfaction.{both-true, not-both, false-if-not-true, le-if-leb, leb-if-le, eq-if-eqb, eqb-self, all-of-append, all-of-first, all-of-second, all-of-at, first-true, second-true}
 use Rattle.clauses.proofs.Answers.{passing, refusing, first-failing-append, first-failing-passed, all-pass-if-yes}
-use Rattle.meaning.specs.Limits.{inputs-limit, latches-limit, gates-limit, nodes-limit, bound-limit}
-use Rattle.meaning.specs.Problem.{Problem, Node, atom, W, latch, gate, node, Header, header, header-words, word, latch-place, gate-place, node-place, words-in-all, children, node-of, read-latch, read-gate, read-node, problem}
-use Rattle.meaning.specs.Check.{known-version, largest-literal, gate-limit, largest-reset, first-right, second-right, children-of, opening-checks, latch-checks, gate-checks, node-checks, part-checks, parts-checked, problem-checked, check-problem, LatchRight, GateRight, FirstRight, SecondRight, NodeRight, WellFormed, NodeProper, Proper}
-use Rattle.meaning.proofs.Numbers.{length-map-numbers, getD-map-numbers, all-of-each, all-of-each-below, all-of-below}
+use Rattle.meaning.specs.Limits.{nodes-limit}
+use Rattle.meaning.specs.Problem.{Problem, W, latch, gate, node, Header, header, word, node-place, children, node-of, read-latch, read-gate, read-node, problem}
+use Rattle.meaning.specs.Check.{largest-literal, first-right, second-right, children-of, opening-checks, latch-checks, gate-checks, node-checks, part-checks, parts-checked, problem-checked, check-problem, LatchRight, GateRight, FirstRight, SecondRight, NodeRight, WellFormed, NodeProper, Proper}
+use Rattle.meaning.proofs.Numbers.{length-map-numbers, getD-map-numbers, all-of-each-below, all-of-below}
 
 -- ════════ Tests and checks in general ════════
 
@@ -32,7 +32,8 @@ first-failing-refused (c ∷ cs) a b e = go (c .passes) refl (first-failing-refu
     go false p later = rw p
 
 -- Of checks that all pass, that of a number passes.
-pub passes-at : (cs : List Check) (k : ℕ) → all-of passing cs ≡ true → k < length cs → (getD cs k (check true (granted 0))) .passes ≡ true
+pub passes-at : (cs : List Check) (k : ℕ) → all-of passing cs ≡ true → k < length cs
+    → (getD cs k (check true (granted 0))) .passes ≡ true
 passes-at cs k = all-of-at passing cs k (check true (granted 0))
 
 -- ════════ One latch, gate or node ════════
@@ -96,7 +97,8 @@ module _ (h : Header) (ws : List ℕ) (i : ℕ) where
 abbrev pub all-checks : ℕ → List ℕ → List Check
 all-checks version ws = opening-checks version ws ++ part-checks ws
 
-pub checked-by-all : (version : ℕ) (ws : List ℕ) (after : Answer) → problem-checked version ws after ≡ first-failing (all-checks version ws) after
+pub checked-by-all : (version : ℕ) (ws : List ℕ) (after : Answer)
+    → problem-checked version ws after ≡ first-failing (all-checks version ws) after
 unfolding problem-checked parts-checked
 checked-by-all version ws after = sym (first-failing-append (opening-checks version ws) (part-checks ws) after)
 
@@ -211,3 +213,81 @@ not-well-formed version ws a b n =
     rw (checked-by-all version ws a, checked-by-all version ws b)
     (first-failing-refused (all-checks version ws) a b
     (false-if-not-true (all-of passing (all-checks version ws)) (λ e. n (well-formed-if-all-pass version ws e))))
+
+-- ════════ What the problem of the words holds ════════
+
+module _ (ws : List ℕ) where
+  pub inputs-of-words : problem ws .inputs ≡ header ws .inputs
+  unfolding problem
+  inputs-of-words = refl
+
+  pub bound-of-words : problem ws .bound ≡ header ws .bound
+  unfolding problem
+  bound-of-words = refl
+
+  pub latches-of-words : length (problem ws .latches) ≡ header ws .latches
+  unfolding problem
+  latches-of-words = length-map-numbers (read-latch ws) 0 (header ws .latches)
+
+  pub gates-of-words : length (problem ws .gates) ≡ header ws .gates
+  unfolding problem
+  gates-of-words = length-map-numbers (read-gate ws) 0 (header ws .gates)
+
+  pub nodes-of-words : length (problem ws .nodes) ≡ header ws .nodes
+  unfolding problem
+  nodes-of-words = length-map-numbers (read-node ws) 0 (header ws .nodes)
+
+  pub W-of-words : W (problem ws) ≡ header ws .inputs + header ws .latches + header ws .gates
+  W-of-words = rw (inputs-of-words, latches-of-words, gates-of-words)
+
+  pub latch-of-words : (i : ℕ) → i < header ws .latches → latch (problem ws) i ≡ read-latch ws i
+  unfolding problem
+  latch-of-words i l = getD-map-numbers (read-latch ws) (header ws .latches) i _ l
+
+  pub gate-of-words : (j : ℕ) → j < header ws .gates → gate (problem ws) j ≡ read-gate ws j
+  unfolding problem
+  gate-of-words j l = getD-map-numbers (read-gate ws) (header ws .gates) j _ l
+
+  pub node-of-words : (n : ℕ) → n < header ws .nodes → node (problem ws) n ≡ read-node ws n
+  unfolding problem
+  node-of-words n l = getD-map-numbers (read-node ws) (header ws .nodes) n _ l
+
+-- ════════ The problem of well-formed words is proper ════════
+
+-- Each op's shape, over words that are right, is a proper node.
+node-of-proper : (p : Problem) (h : Header) (n op a b : ℕ) → largest-literal h ≡ 2 * W p + 1 → op < length children
+    → FirstRight h n (children-of op) a → SecondRight n (children-of op) b → NodeProper p n (node-of op a b)
+node-of-proper p h n zero a b e l f s = rw e at f
+node-of-proper p h n (suc zero) a b e l f s = (f, s)
+node-of-proper p h n (suc (suc zero)) a b e l f s = (f, s)
+node-of-proper p h n (suc (suc (suc zero))) a b e l f s = f
+node-of-proper p h n (suc (suc (suc (suc zero)))) a b e l f s = (tt, f)
+node-of-proper p h n (suc (suc (suc (suc (suc zero))))) a b e l f s = (tt, f)
+node-of-proper p h n (suc (suc (suc (suc (suc (suc zero)))))) a b e l f s = (f, s)
+node-of-proper p h n (suc (suc (suc (suc (suc (suc (suc zero))))))) a b e l f s = (f, s)
+node-of-proper p h n (suc (suc (suc (suc (suc (suc (suc (suc op)))))))) a b e l f s = absurd (omega arith)
+
+pub proper-if-well-formed : (version : ℕ) (ws : List ℕ) → WellFormed version ws → Proper (problem ws)
+proper-if-well-formed version ws w = record {
+  inputs-within = rw inputs-of-words (w .inputs-within);
+  latches-within = rw latches-of-words (w .latches-within);
+  gates-within = rw gates-of-words (w .gates-within);
+  nodes-some = rw nodes-of-words (w .nodes-some);
+  nodes-within = rw nodes-of-words (w .nodes-within);
+  bound-within = rw bound-of-words (w .bound-within);
+  next-in-range = λ i l. let m = is-latch i l in rw (latch-of-words ws i m, W-of-words) (w .latches-right i m .next-in-range);
+  reset-in-range = λ i l. let m = is-latch i l in rw (latch-of-words ws i m) (w .latches-right i m .reset-in-range);
+  left-below = λ j l. let m = is-gate j l in rw (gate-of-words ws j m, latches-of-words, inputs-of-words) (w .gates-right j m .left-below);
+  right-below = λ j l. let m = is-gate j l in rw (gate-of-words ws j m, latches-of-words, inputs-of-words) (w .gates-right j m .right-below);
+  nodes-proper = λ n l.
+      let m : n < header ws .nodes = rw nodes-of-words at l in
+      let r = w .nodes-right n m in
+      rw (node-of-words ws n m)
+      (node-of-proper (problem ws) (header ws) n _ _ _ (rw W-of-words) (r .op-known) (r .first-word) (r .second-word));
+}
+  where
+    is-latch : (i : ℕ) → i < length (problem ws .latches) → i < header ws .latches
+    is-latch i l = rw latches-of-words at l
+
+    is-gate : (j : ℕ) → j < length (problem ws .gates) → j < header ws .gates
+    is-gate j l = rw gates-of-words at l
