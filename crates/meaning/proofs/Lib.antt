@@ -1,0 +1,3 @@
+-- What follows from the definitions of specs/.
+pub mod Numbers
+pub mod Check
