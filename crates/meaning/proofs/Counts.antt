@@ -14,12 +14,9 @@ use Rattle.clauses.specs.CnfWords.{words-of}
 use Rattle.meaning.specs.Problem.{Problem, Latch, Node, latch, node, atom, both, either, next, until, release}
 use Rattle.meaning.specs.Cnf.{variables, positions, selector, latch-at, gate-clauses, gates-item, reset-unit, resets-item, steps-item, closing-clauses, closing-item, selectors-item, P-clauses, Q-clauses, E-clauses, node-clauses, nodes-item, cnf, cnf-words}
 use Rattle.meaning.specs.Counts.{fixed-resets, has-equal-form, has-or-form, has-until-form, pairs, variable-count, clause-count, word-count}
+use Rattle.meaning.proofs.Numbers.{length-numbers}
 
--- ════════ Numbers ════════
-
-pub length-numbers : (i n : ℕ) → length (numbers i n) ≡ n
-length-numbers i zero = refl
-length-numbers i (suc n) = ap suc (length-numbers (suc i) n)
+-- ════════ Pairs ════════
 
 -- The pairs of one number more.
 pairs-suc : (n : ℕ) → pairs (suc n) ≡ n + pairs n

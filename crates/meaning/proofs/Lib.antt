@@ -1,2 +1,4 @@
 -- What follows from the definitions of specs/.
+pub mod Numbers
 pub mod Counts
+pub mod Ranges

@@ -1,0 +1,76 @@
+-- Laws of the lists of numbers, and of the lists made for each element. Assumes nothing.
+use mathlib.Core.Path.{_≡_, refl, sym, _∙_, ap}
+use mathlib.Core.Bool.{Bool, true}
+use mathlib.Core.List.{List, [], _∷_, _++_, map, append-assoc}
+use Prim.Native.Nat.{ℕ, zero, suc, _+_, _<_, zero-le, suc-le-suc}
+use native.Mathlib.Nat.{add-zero, add-suc, zero-add, suc-add, not-suc-le-zero, le-of-suc-le-suc}
+use lib.ListN.{length, getD, length-map}
+use Rattle.clauses.specs.Lists.{numbers, each, all-of}
+use Rattle.clauses.proofs.Satisfaction.{both-true, all-of-append, all-of-first, all-of-second}
+
+-- ════════ Numbers ════════
+
+pub length-numbers : (i n : ℕ) → length (numbers i n) ≡ n
+length-numbers i zero = refl
+length-numbers i (suc n) = ap suc (length-numbers (suc i) n)
+
+pub getD-numbers : (i n j d : ℕ) → j < n → getD (numbers i n) j d ≡ i + j
+getD-numbers i zero j d l = absurd (not-suc-le-zero l)
+getD-numbers i (suc n) zero d l = sym (add-zero i)
+getD-numbers i (suc n) (suc j) d l = getD-numbers (suc i) n j d (le-of-suc-le-suc l) ∙ simp (suc-add, add-suc)
+
+pub numbers-append : (i m n : ℕ) → numbers i (m + n) ≡ numbers i m ++ numbers (i + m) n
+numbers-append i zero n = rw (zero-add, add-zero)
+numbers-append i (suc m) n = rw (suc-add m n, add-suc i m, ← suc-add i m) (ap (λ (is : List ℕ). i ∷ is) (numbers-append (suc i) m n))
+
+pub numbers-suc : (i n : ℕ) → numbers i (suc n) ≡ numbers i n ++ ((i + n) ∷ [])
+numbers-suc i zero = rw add-zero
+numbers-suc i (suc n) = rw (add-suc i n, ← suc-add i n) (ap (λ (is : List ℕ). i ∷ is) (numbers-suc (suc i) n))
+
+-- ════════ What is made of each number ════════
+
+module _ {A : Type 0} (f : ℕ → A) where
+  pub length-map-numbers : (i n : ℕ) → length (map f (numbers i n)) ≡ n
+  length-map-numbers i n = length-map (numbers i n) f ∙ length-numbers i n
+
+  pub getD-map-numbers-from : (i n j : ℕ) (d : A) → j < n → getD (map f (numbers i n)) j d ≡ f (i + j)
+  getD-map-numbers-from i zero j d l = absurd (not-suc-le-zero l)
+  getD-map-numbers-from i (suc n) zero d l = rw add-zero
+  getD-map-numbers-from i (suc n) (suc j) d l =
+      getD-map-numbers-from (suc i) n j d (le-of-suc-le-suc l) ∙ simp (suc-add, add-suc)
+
+  pub getD-map-numbers : (n j : ℕ) (d : A) → j < n → getD (map f (numbers 0 n)) j d ≡ f j
+  getD-map-numbers n j d l = getD-map-numbers-from 0 n j d l ∙ rw zero-add
+
+-- ════════ The lists of each element ════════
+
+module _ {A B : Type 0} where
+  pub each-append : (xs ys : List A) (f : A → List B) → each (xs ++ ys) f ≡ each xs f ++ each ys f
+  each-append [] ys f = refl
+  each-append (x ∷ xs) ys f = rw (each-append xs ys f, append-assoc)
+
+  module _ (t : B → Bool) (g : A → List B) where
+    pub all-of-each : (xs : List A) → ((x : A) → all-of t (g x) ≡ true) → all-of t (each xs g) ≡ true
+    all-of-each [] h = refl
+    all-of-each (x ∷ xs) h = rw all-of-append (both-true (h x) (all-of-each xs h))
+
+module _ {B : Type 0} (t : B → Bool) (g : ℕ → List B) where
+  pub all-of-each-number : (i n : ℕ) → ((j : ℕ) → j < n → all-of t (g (i + j)) ≡ true) → all-of t (each (numbers i n) g) ≡ true
+  all-of-each-number i zero h = refl
+  all-of-each-number i (suc n) h =
+      rw all-of-append (both-true (rw add-zero at (h 0 (suc-le-suc zero-le)))
+      (all-of-each-number (suc i) n (λ j l. rw (suc-add, ← add-suc) (h (suc j) (suc-le-suc l)))))
+
+  pub all-of-number : (i n : ℕ) → all-of t (each (numbers i n) g) ≡ true → (j : ℕ) → j < n → all-of t (g (i + j)) ≡ true
+  all-of-number i zero e j l = absurd (not-suc-le-zero l)
+  all-of-number i (suc n) e zero l = rw add-zero (all-of-first t (g i) (each (numbers (suc i) n) g) e)
+  all-of-number i (suc n) e (suc j) l =
+      rw (add-suc, ← suc-add)
+      (all-of-number (suc i) n (all-of-second t (g i) (each (numbers (suc i) n) g) e) j (le-of-suc-le-suc l))
+
+  -- Counted from 0.
+  pub all-of-each-below : (n : ℕ) → ((j : ℕ) → j < n → all-of t (g j) ≡ true) → all-of t (each (numbers 0 n) g) ≡ true
+  all-of-each-below n h = all-of-each-number 0 n (λ j l. rw zero-add (h j l))
+
+  pub all-of-below : (n : ℕ) → all-of t (each (numbers 0 n) g) ≡ true → (j : ℕ) → j < n → all-of t (g j) ≡ true
+  all-of-below n e j l = rw zero-add at (all-of-number 0 n e j l)
