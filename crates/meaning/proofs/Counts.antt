@@ -115,9 +115,9 @@ forms-are-all (release a b ∷ xs) = rw (← forms-are-all xs) (omega arith)
 
 -- ════════ The items ════════
 
--- 0, 1 and the others.
-reset-below-2 : (r : ℕ) → ltb (suc (suc r)) 2 ≡ false
-reset-below-2 r = leb·suc-suc (suc (suc r)) 1 ∙ leb·suc-suc (suc r) 0 ∙ leb·suc-zero r
+-- A reset that is not 0 or 1.
+free-reset : (r : ℕ) → ltb (suc (suc r)) 2 ≡ false
+free-reset r = leb·suc-suc (suc (suc r)) 1 ∙ leb·suc-suc (suc r) 0 ∙ leb·suc-zero r
 
 module _ (w : ℕ → ℕ) (p : Problem) where
   gates-total : total w (gates-item p) ≡ (p .bound + 1) * ((w 2 + w 2 + w 3) * length (p .gates))
@@ -128,7 +128,7 @@ module _ (w : ℕ → ℕ) (p : Problem) where
   reset-total : (r : ℕ) (x : ℤ) → total w (reset-unit r x) ≡ cond (ltb r 2) (w 1) 0
   reset-total zero x = omega arith
   reset-total (suc zero) x = omega arith
-  reset-total (suc (suc r)) x = rw reset-below-2
+  reset-total (suc (suc r)) x = rw free-reset
 
   resets-total : total w (resets-item p) ≡ w 1 * fixed-resets (p .latches)
   resets-total =
@@ -145,22 +145,22 @@ module _ (w : ℕ → ℕ) (p : Problem) where
       total-numbers w 0 (p .bound + 1) _ _ (λ l. total-numbers w 0 (length (p .latches)) (closing-clauses p l) (w 3 + w 3) (λ i. omega arith))
       ∙ mul-comm _ (p .bound + 1)
 
-  -- The selectors from l on.
+  -- The clause of two selectors, and the clauses of the n selectors from l on.
   abbrev selector-pair : ℕ → ℕ → List Clause
   selector-pair l m = (negated (selector p l) ∷ negated (selector p m) ∷ []) ∷ []
 
   abbrev selectors-from : ℕ → ℕ → List Clause
   selectors-from l n = each (numbers l n) (λ l. each (numbers (l + 1) (p .bound - l)) (selector-pair l))
 
+  selector-pairs-total : (l : ℕ) → total w (each (numbers (l + 1) (p .bound - l)) (selector-pair l)) ≡ w 2 * (p .bound - l)
+  selector-pairs-total l = total-numbers w (l + 1) (p .bound - l) (selector-pair l) (w 2) (λ m. omega arith)
+
   selectors-from-total : (n l : ℕ) → l + n ≡ p .bound + 1 → total w (selectors-from l n) ≡ w 2 * pairs n
   selectors-from-total zero l e = omega arith
   selectors-from-total (suc n) l e =
       let later : total w (selectors-from (suc l) n) ≡ w 2 * pairs n = selectors-from-total n (suc l) (omega arith) in
       let rest : p .bound - l ≡ n = omega arith in
-      let first : total w (each (numbers (l + 1) (p .bound - l)) (selector-pair l)) ≡ w 2 * (p .bound - l) =
-      total-numbers w (l + 1) (p .bound - l) (selector-pair l) (w 2) (λ m. omega arith)
-      in
-      rw (total-append, first, later, rest, pairs-suc, mul-add)
+      rw (total-append, selector-pairs-total l, later, rest, pairs-suc, mul-add)
 
   selectors-total : total w (selectors-item p) ≡ w 2 * pairs (p .bound + 1)
   selectors-total = selectors-from-total (p .bound + 1) 0 (omega arith)
@@ -189,15 +189,15 @@ module _ (w : ℕ → ℕ) (p : Problem) where
   P-Q-total n (until a b) i = omega arith
   P-Q-total n (release a b) i = omega arith
 
+  values-total : (n : ℕ) (x : Node) → total w (each (positions p) (λ i. P-clauses p n x i ++ Q-clauses p n x i)) ≡ (p .bound + 1) * form-weight w x
+  values-total n x = total-numbers w 0 (p .bound + 1) _ (form-weight w x) (P-Q-total n x) ∙ mul-comm (form-weight w x) (p .bound + 1)
+
+  ends-total : (n : ℕ) (x : Node) → total w (each (positions p) (E-clauses p n x)) ≡ (w 3 + w 3) * (p .bound + 1)
+  ends-total n x = total-numbers w 0 (p .bound + 1) (E-clauses p n x) (w 3 + w 3) (λ l. omega arith)
+
   node-total : (n : ℕ) → total w (node-clauses p n) ≡ (p .bound + 1) * form-weight w (node p n) + closed-weight w (p .bound + 1)
   node-total n =
-      let values : total w (each (positions p) (λ i. P-clauses p n (node p n) i ++ Q-clauses p n (node p n) i)) ≡ form-weight w (node p n) * (p .bound + 1) =
-      total-numbers w 0 (p .bound + 1) _ (form-weight w (node p n)) (P-Q-total n (node p n))
-      in
-      let ends : total w (each (positions p) (E-clauses p n (node p n))) ≡ (w 3 + w 3) * (p .bound + 1) =
-      total-numbers w 0 (p .bound + 1) (E-clauses p n (node p n)) (w 3 + w 3) (λ l. omega arith)
-      in
-      rw (total-append, total-append, values, ends, length-map, length-numbers, mul-comm (form-weight w (node p n))) (omega arith)
+      rw (total-append, total-append, values-total n (node p n), ends-total n (node p n), length-map, length-numbers) (omega arith)
 
   nodes-total : total w (nodes-item p)
       ≡ (p .bound + 1) * forms (4 * w 2) (4 * w 2 + w 3) (2 * w 2 + 6 * w 3) (p .nodes) + length (p .nodes) * closed-weight w (p .bound + 1)
@@ -208,6 +208,7 @@ module _ (w : ℕ → ℕ) (p : Problem) where
 
 -- ════════ The whole ════════
 
+-- The closed form of either number, by the weights of a clause.
 module _ (w : ℕ → ℕ) (p : Problem) where
   abbrev closed-form : ℕ
   closed-form =
@@ -236,7 +237,7 @@ word-count-is p =
     let ends : closed-weight suc (p .bound + 1) ≡ 9 * (p .bound + 1) + 2 = omega arith in
     sym (total-words (cnf p)) ∙ cnf-total suc p ∙ rw (forms-are-all (p .nodes)) (omega (arith, ap (λ r. length (p .nodes) * r) ends))
 
--- The last of some.
+-- The last of some multiples.
 last-of : (n c : ℕ) → 1 ≤ n → n * c ≡ (n - 1) * c + c
 last-of zero c h = omega arith
 last-of (suc n) c h =

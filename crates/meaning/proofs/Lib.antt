@@ -1,4 +1,5 @@
 -- What follows from the definitions of specs/.
 pub mod Numbers
 pub mod Counts
+pub mod Within
 pub mod Ranges

@@ -1,90 +1,29 @@
 -- The CNF's literals are of variables 1 to V, V stands in it, and V is within the limit. Assumes nothing.
-use mathlib.Core.Path.{_≡_, refl, sym, _∙_, ap}
-use mathlib.Core.Bool.{Bool, true, false, cond, _&&_}
+use mathlib.Core.Path.{_≡_, refl}
+use mathlib.Core.Bool.{Bool, true, false, cond}
 use mathlib.Core.List.{List, [], _∷_, _++_, map}
 use Prim.Native.Nat.{ℕ, zero, suc, max, _+_, _*_, _-_, _/_, _≤_, _<_}
-use native.Mathlib.Nat.{zero-add, add-mul, mul-add, mul-one, one-mul, mul-comm, mul-le-mul, mul-le-mul-right}
+use native.Mathlib.Nat.{zero-add, add-zero, add-suc, suc-add, add-mul, mul-add, mul-one, one-mul, mul-le-mul, mul-le-mul-right}
 use native.Mathlib.Omega.{arith}
-use lib.IntN.{ℤ, pos, negsuc}
+use lib.IntN.{ℤ, pos}
 use lib.Dec.{leb}
-use lib.ListN.{length, getD}
-use Rattle.clauses.specs.Lists.{numbers, each, all-of}
+use lib.ListN.{length}
+use Rattle.clauses.specs.Lists.{numbers, each}
 use Rattle.clauses.specs.Limits.{variables-limit}
-use Rattle.clauses.specs.Clauses.{Clause, negated, variable-of, literal-within, Within}
-use Rattle.clauses.proofs.Satisfaction.{both-true, leb-if-le, le-if-leb, all-of-append, all-of-map, all-of-if-at, first-true, second-true}
+use Rattle.clauses.specs.Clauses.{Clause, variable-of, literal-within, Within}
+use Rattle.clauses.proofs.Satisfaction.{both-true, le-if-leb, all-of-append, all-of-map, all-of-if-at, first-true, second-true}
 use Rattle.meaning.specs.Limits.{inputs-limit, latches-limit, gates-limit, nodes-limit, bound-limit}
-use Rattle.meaning.specs.Problem.{Problem, Latch, Gate, Left, Node, W, latch-variable, gate-variable, latch, gate, node, constant, child, atom, both, either, next, until, release}
+use Rattle.meaning.specs.Problem.{Problem, Left, Node, W, latch-variable, gate-variable, latch, gate, node, constant, child, atom, both, either, next, until, release}
 use Rattle.meaning.specs.Check.{Proper, LeftProper, NodeProper}
 use Rattle.meaning.specs.Runs.{odd}
-use Rattle.meaning.specs.Cnf.{true-literal, false-literal, circuit-variable, signed, literal-at, node-variables, selector, E, P, Q, Q-end, Q-at, left-at, variables, positions, latch-at, next-at, equal-form, or-form, and-form, until-form, release-form, gate-clauses, gates-item, reset-unit, resets-item, steps-item, closing-clauses, closing-item, selectors-item, P-clauses, Q-clauses, E-clauses, E-closed, node-clauses, nodes-item, cnf}
+use Rattle.meaning.specs.Cnf.{true-literal, false-literal, circuit-variable, literal-at, node-variables, selector, E, P, Q, Q-end, Q-at, left-at, variables, positions, latch-at, next-at, gate-clauses, gates-item, reset-unit, resets-item, steps-item, closing-clauses, closing-item, selectors-item, P-clauses, Q-clauses, E-clauses, node-clauses, nodes-item, cnf}
 use Rattle.meaning.specs.Counts.{largest-in, largest-variable}
 use Rattle.meaning.proofs.Numbers.{length-numbers, getD-numbers, all-of-each-number, all-of-each-below}
-
--- ════════ Literals and forms within ════════
-
-variable-of-negated : (x : ℤ) → variable-of (negated x) ≡ variable-of x
-variable-of-negated (pos zero) = refl
-variable-of-negated (pos (suc n)) = refl
-variable-of-negated (negsuc n) = refl
-
--- A literal of one of the variables 1 to v.
-record Fits (v : ℕ) (x : ℤ) : Type 0 where
-  within : literal-within v x ≡ true
-
-module _ {v : ℕ} where
-  pos-fits : {n : ℕ} → 1 ≤ n → n ≤ v → Fits v (pos n)
-  pos-fits {n} low high = record { within = both-true (leb-if-le 1 n low) (leb-if-le n v high) }
-
-  negated-fits : {x : ℤ} → Fits v x → Fits v (negated x)
-  negated-fits {x} h = record { within = rw variable-of-negated (h .within) }
-
-  signed-fits : (b : Bool) {x : ℤ} → Fits v x → Fits v (signed b x)
-  signed-fits true h = negated-fits h
-  signed-fits false h = h
-
-  unit-within : {x : ℤ} → Fits v x → Within v ((x ∷ []) ∷ [])
-  unit-within h = both-true (both-true (h .within) refl) refl
-
-  two-fit : {x y : ℤ} → Fits v x → Fits v y → all-of (literal-within v) (x ∷ y ∷ []) ≡ true
-  two-fit hx hy = both-true (hx .within) (both-true (hy .within) refl)
-
-  three-fit : {x y z : ℤ} → Fits v x → Fits v y → Fits v z → all-of (literal-within v) (x ∷ y ∷ z ∷ []) ≡ true
-  three-fit hx hy hz = both-true (hx .within) (two-fit hy hz)
-
-  equal-form-within : {x a : ℤ} → Fits v x → Fits v a → Within v (equal-form x a)
-  equal-form-within hx ha = both-true (two-fit (negated-fits hx) ha) (both-true (two-fit hx (negated-fits ha)) refl)
-
-  or-form-within : {x a b : ℤ} → Fits v x → Fits v a → Fits v b → Within v (or-form x a b)
-  or-form-within hx ha hb =
-      both-true (two-fit hx (negated-fits ha))
-      (both-true (two-fit hx (negated-fits hb)) (both-true (three-fit (negated-fits hx) ha hb) refl))
-
-  and-form-within : {x a b : ℤ} → Fits v x → Fits v a → Fits v b → Within v (and-form x a b)
-  and-form-within hx ha hb = or-form-within (negated-fits hx) (negated-fits ha) (negated-fits hb)
-
-  until-form-within : {x a b y : ℤ} → Fits v x → Fits v a → Fits v b → Fits v y → Within v (until-form x a b y)
-  until-form-within hx ha hb hy =
-      both-true (two-fit hx (negated-fits hb))
-      (both-true (three-fit hx (negated-fits ha) (negated-fits hy))
-      (both-true (three-fit (negated-fits hx) hb ha) (both-true (three-fit (negated-fits hx) hb hy) refl)))
-
-  release-form-within : {x a b y : ℤ} → Fits v x → Fits v a → Fits v b → Fits v y → Within v (release-form x a b y)
-  release-form-within hx ha hb hy = until-form-within (negated-fits hx) (negated-fits ha) (negated-fits hb) (negated-fits hy)
-
-  -- The two clauses that a selector turns on.
-  selected-within : {s x a : ℤ} → Fits v s → Fits v x → Fits v a
-      → Within v ((negated s ∷ negated x ∷ a ∷ []) ∷ (negated s ∷ x ∷ negated a ∷ []) ∷ [])
-  selected-within hs hx ha =
-      both-true (three-fit (negated-fits hs) (negated-fits hx) ha)
-      (both-true (three-fit (negated-fits hs) hx (negated-fits ha)) refl)
-
--- ════════ Clauses within ════════
-
-within-append : (v : ℕ) (cs ds : List Clause) → Within v cs → Within v ds → Within v (cs ++ ds)
-within-append v cs ds hc hd = rw all-of-append (both-true hc hd)
+use Rattle.meaning.proofs.Within.{variable-of-negated, clause-within, Fits, pos-fits, negated-fits, signed-fits, unit-within, two-fit, equal-form-within, or-form-within, and-form-within, until-form-within, release-form-within, selected-within, within-append}
 
 -- ════════ The bounds of each kind of variable ════════
 
+-- Positions to k, w circuit variables; the rest is the nodes'.
 module _ (k w v rest : ℕ) where
   circuit-bound : (t : ℕ) → t ≤ k → v ≤ w → 1 + t * w + v ≤ (k + 1) * (w + 1) + 2 + rest + 2 * (k + 1)
   circuit-bound t ht hv = rw (mul-add, mul-one, add-mul, one-mul) (omega (arith, mul-le-mul-right w ht))
@@ -160,8 +99,8 @@ module _ (p : Problem) (proper : Proper p) where
 
   gates-within : Within (variables p) (gates-item p)
   gates-within =
-      all-of-each-below (all-of (literal-within (variables p))) _ (p .bound + 1) λ t ht.
-      all-of-each-below (all-of (literal-within (variables p))) (gate-clauses p t) (length (p .gates)) λ j hj.
+      all-of-each-below (clause-within (variables p)) _ (p .bound + 1) λ t ht.
+      all-of-each-below (clause-within (variables p)) (gate-clauses p t) (length (p .gates)) λ j hj.
       let left-small : gate p j .left < 2 * gate-variable p j = proper .left-below j hj in
       let right-small : gate p j .right < 2 * gate-variable p j = proper .right-below j hj in
       and-form-within
@@ -176,28 +115,28 @@ module _ (p : Problem) (proper : Proper p) where
 
   resets-within : Within (variables p) (resets-item p)
   resets-within =
-      all-of-each-below (all-of (literal-within (variables p))) _ (length (p .latches)) λ i hi.
+      all-of-each-below (clause-within (variables p)) _ (length (p .latches)) λ i hi.
       reset-within (latch p i .reset) (latch-fits 0 i (omega arith) hi)
 
   steps-within : Within (variables p) (steps-item p)
   steps-within =
-      all-of-each-below (all-of (literal-within (variables p))) _ (p .bound) λ t ht.
-      all-of-each-below (all-of (literal-within (variables p))) _ (length (p .latches)) λ i hi.
+      all-of-each-below (clause-within (variables p)) _ (p .bound) λ t ht.
+      all-of-each-below (clause-within (variables p)) _ (length (p .latches)) λ i hi.
       equal-form-within (latch-fits (t + 1) i (omega arith) hi) (next-fits t i (omega arith) hi)
 
   closing-within : Within (variables p) (closing-item p)
   closing-within =
-      all-of-each-below (all-of (literal-within (variables p))) _ (p .bound + 1) λ l hl.
-      all-of-each-below (all-of (literal-within (variables p))) (closing-clauses p l) (length (p .latches)) λ i hi.
+      all-of-each-below (clause-within (variables p)) _ (p .bound + 1) λ l hl.
+      all-of-each-below (clause-within (variables p)) (closing-clauses p l) (length (p .latches)) λ i hi.
       selected-within (selector-fits l (omega arith)) (latch-fits l i (omega arith) hi) (next-fits (p .bound) i (omega arith) hi)
 
   selectors-within : Within (variables p) (selectors-item p)
   selectors-within =
-      all-of-each-below (all-of (literal-within (variables p))) _ (p .bound + 1) λ l hl.
-      all-of-each-number (all-of (literal-within (variables p))) _ (l + 1) (p .bound - l) λ m hm.
+      all-of-each-below (clause-within (variables p)) _ (p .bound + 1) λ l hl.
+      all-of-each-number (clause-within (variables p)) _ (l + 1) (p .bound - l) λ m hm.
       both-true (two-fit (negated-fits (selector-fits l (omega arith))) (negated-fits (selector-fits (l + 1 + m) (omega arith)))) refl
 
-  all-selectors-fit : all-of (literal-within (variables p)) (map (selector p) (positions p)) ≡ true
+  all-selectors-fit : clause-within (variables p) (map (selector p) (positions p)) ≡ true
   all-selectors-fit =
       rw all-of-map
       (all-of-if-at _ (positions p) 0 λ l hl.
@@ -232,23 +171,26 @@ module _ (p : Problem) (proper : Proper p) where
         release-form-within
         (Q-at-fits (release a b) i) (left-fits n a i hn (h .0)) (P-fits b i (omega arith)) (Q-at-fits (release a b) (i + 1))
 
+    values-within : Within (variables p) (each (positions p) (λ i. P-clauses p n (node p n) i ++ Q-clauses p n (node p n) i))
+    values-within =
+        all-of-each-below (clause-within (variables p)) _ (p .bound + 1) λ i hi.
+        within-append (variables p) (P-clauses p n (node p n) i) (Q-clauses p n (node p n) i)
+        (P-within (node p n) (proper .nodes-proper n hn) i (omega arith))
+        (Q-within (node p n) (proper .nodes-proper n hn) i)
+
+    ends-within : Within (variables p) (each (positions p) (E-clauses p n (node p n)))
+    ends-within =
+        all-of-each-below (clause-within (variables p)) (E-clauses p n (node p n)) (p .bound + 1) λ l hl.
+        selected-within (selector-fits l (omega arith)) (E-fits n hn) (Q-at-fits (node p n) l)
+
     node-within : Within (variables p) (node-clauses p n)
     node-within =
-        let x-proper : NodeProper p n (node p n) = proper .nodes-proper n hn in
-        let values : Within (variables p) (each (positions p) (λ i. P-clauses p n (node p n) i ++ Q-clauses p n (node p n) i)) =
-        all-of-each-below (all-of (literal-within (variables p))) _ (p .bound + 1) λ i hi.
-        within-append (variables p) (P-clauses p n (node p n) i) (Q-clauses p n (node p n) i)
-        (P-within (node p n) x-proper i (omega arith)) (Q-within (node p n) x-proper i)
-        in
-        let ends : Within (variables p) (each (positions p) (E-clauses p n (node p n))) =
-        all-of-each-below (all-of (literal-within (variables p))) (E-clauses p n (node p n)) (p .bound + 1) λ l hl.
-        selected-within (selector-fits l (omega arith)) (E-fits n hn) (Q-at-fits (node p n) l)
-        in
         rw (all-of-append, all-of-append)
-        (both-true (both-true values ends) (both-true (both-true (negated-fits (E-fits n hn) .within) all-selectors-fit) refl))
+        (both-true (both-true values-within ends-within)
+        (both-true (both-true (negated-fits (E-fits n hn) .within) all-selectors-fit) refl))
 
   nodes-item-within : Within (variables p) (nodes-item p)
-  nodes-item-within = all-of-each-below (all-of (literal-within (variables p))) (node-clauses p) (length (p .nodes)) node-within
+  nodes-item-within = all-of-each-below (clause-within (variables p)) (node-clauses p) (length (p .nodes)) node-within
 
 pub literals-within : (p : Problem) → Proper p → Within (variables p) (cnf p)
 unfolding cnf
@@ -263,3 +205,54 @@ literals-within p proper =
     (selectors-within p proper))
     (nodes-item-within p proper))
     (unit-within (P-fits p proper (length (p .nodes) - 1) 0 (omega arith))))
+
+-- ════════ The largest variable ════════
+
+largest-in-at-most : (v : ℕ) (c : Clause) → clause-within v c ≡ true → largest-in c ≤ v
+largest-in-at-most v [] h = omega arith
+largest-in-at-most v (x ∷ xs) h =
+    let first : variable-of x ≤ v = le-if-leb _ _ (second-true (leb 1 (variable-of x)) _ (first-true (literal-within v x) _ h)) in
+    let later : largest-in xs ≤ v = largest-in-at-most v xs (second-true (literal-within v x) _ h) in
+    omega arith
+
+largest-at-most : (v : ℕ) (cs : List Clause) → Within v cs → largest-variable cs ≤ v
+largest-at-most v [] h = omega arith
+largest-at-most v (c ∷ cs) h =
+    let first : largest-in c ≤ v = largest-in-at-most v c (first-true (clause-within v c) _ h) in
+    let later : largest-variable cs ≤ v = largest-at-most v cs (second-true (clause-within v c) _ h) in
+    omega arith
+
+largest-append : (cs ds : List Clause) → largest-variable (cs ++ ds) ≡ max (largest-variable cs) (largest-variable ds)
+largest-append [] ds = omega arith
+largest-append (c ∷ cs) ds = rw (largest-append cs ds) (omega arith)
+
+largest-each : (f : ℕ → List Clause) (i n j : ℕ) → j < n → largest-variable (f (i + j)) ≤ largest-variable (each (numbers i n) f)
+largest-each f i zero j h = omega arith
+largest-each f i (suc n) zero h = rw (add-zero, largest-append) (omega arith)
+largest-each f i (suc n) (suc j) h =
+    let later : largest-variable (f (suc i + j)) ≤ largest-variable (each (numbers (suc i) n) f) = largest-each f (suc i) n j (omega arith) in
+    rw (add-suc, ← suc-add, largest-append) (omega arith)
+
+-- E(n) stands in the last clause of node n.
+E-stands : (p : Problem) (n : ℕ) → variable-of (E p n) ≤ largest-variable (node-clauses p n)
+E-stands p n = rw (largest-append, variable-of-negated (E p n)) (omega arith)
+
+E-stands-among : (p : Problem) (n : ℕ) → n < length (p .nodes) → variable-of (E p n) ≤ largest-variable (nodes-item p)
+E-stands-among p n h = omega (arith, E-stands p n, rw zero-add at (largest-each (node-clauses p) 0 (length (p .nodes)) n h))
+
+pub largest-is : (p : Problem) → Proper p → largest-variable (cnf p) ≡ variables p
+unfolding cnf variables
+largest-is p proper =
+    let most : largest-variable (cnf p) ≤ variables p = largest-at-most (variables p) (cnf p) (literals-within p proper) in
+    let last : variables p ≤ largest-variable (nodes-item p) = E-stands-among p (length (p .nodes) - 1) (omega arith) in
+    let least : variables p ≤ largest-variable (cnf p) = rw (largest-append, largest-append) (omega arith) in
+    omega arith
+
+-- ════════ The limit ════════
+
+pub variables-fit : (p : Problem) → Proper p → variables p ≤ variables-limit
+unfolding variables variables-limit inputs-limit latches-limit gates-limit nodes-limit bound-limit
+variables-fit p proper =
+    let circuit : (p .bound + 1) * (W p + 1) ≤ 32 * 1_153 = mul-le-mul {n₂ = 32} {m₂ = 1_153} (omega arith) (omega arith) in
+    let nodes : (length (p .nodes) - 1) * (2 * p .bound + 3) ≤ 63 * 65 = mul-le-mul {n₂ = 63} {m₂ = 65} (omega arith) (omega arith) in
+    omega arith
