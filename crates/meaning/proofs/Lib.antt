@@ -1,3 +1,6 @@
 -- What follows from the definitions of specs/.
 pub mod Numbers
 pub mod Check
+pub mod Counts
+pub mod Within
+pub mod Ranges
