@@ -155,7 +155,7 @@ thirteen-are-right : map (λ (c : Case). check-problem 1 (c .words)) thirteen-ca
 unfolding known-version inputs-limit latches-limit gates-limit nodes-limit bound-limit part-checks parts-checked problem-checked check-problem
 thirteen-are-right = refl
 
-thirteen-counts : map (λ (c : Case). length (witnesses (problem (c .words)))) thirteen-cases ≡ map (λ (c : Case). c .count) thirteen-cases
+pub thirteen-counts : map (λ (c : Case). length (witnesses (problem (c .words)))) thirteen-cases ≡ map (λ (c : Case). c .count) thirteen-cases
 unfolding problem values next-values formula run judge-formula judge-run judge-bytes witnesses
 thirteen-counts = refl
 

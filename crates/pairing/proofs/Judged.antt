@@ -1,0 +1,26 @@
+-- The judge of words and bytes says yes exactly to well-formed words with a witness of their problem. Assumes nothing.
+use mathlib.Core.Path.{_≡_, sym, _∙_, ap}
+use mathlib.Core.Logic.{_↔_}
+use mathlib.Core.List.{List}
+use Prim.Native.Nat.{ℕ}
+use Rattle.clauses.specs.Answers.{Answer, granted}
+use Rattle.meaning.specs.Problem.{problem}
+use Rattle.meaning.specs.Check.{WellFormed}
+use Rattle.meaning.specs.Witnesses.{Witness, judge-bytes}
+use Rattle.meaning.specs.Calls.{judge-witness}
+use Rattle.meaning.proofs.Check.{checked-if-well-formed, well-formed-if-checked}
+use Rattle.pairing.proofs.Witnesses.{accepted-is-witness}
+
+module _ (version : ℕ) (ws bs : List ℕ) where
+  judged-forth : judge-witness version ws bs ≡ granted 0 → WellFormed version ws × Witness (problem ws) bs
+  unfolding judge-witness
+  judged-forth e =
+      let formed = well-formed-if-checked version ws (judge-bytes (problem ws) bs) (ap (λ (a : Answer). a .number) e) in
+      (formed, accepted-is-witness (problem ws) bs .0 (sym (checked-if-well-formed version ws (judge-bytes (problem ws) bs) formed) ∙ e))
+
+  judged-back : WellFormed version ws × Witness (problem ws) bs → judge-witness version ws bs ≡ granted 0
+  unfolding judge-witness
+  judged-back w = checked-if-well-formed version ws (judge-bytes (problem ws) bs) (w .0) ∙ accepted-is-witness (problem ws) bs .1 (w .1)
+
+  pub judged-is-witness : (judge-witness version ws bs ≡ granted 0) ↔ (WellFormed version ws × Witness (problem ws) bs)
+  judged-is-witness = (judged-forth, judged-back)

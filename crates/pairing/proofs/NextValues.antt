@@ -1,0 +1,75 @@
+-- Laws of the next value, and of U and R that unfold to the last position. Assumes nothing.
+use mathlib.Core.Path.{_≡_, refl, sym, _∙_, ap, subst}
+use mathlib.Core.Logic.{_⊎_, inl, inr}
+use mathlib.Core.Bool.{Bool, true, false, _&&_, _||_, cond}
+use mathlib.Core.List.{_∷_}
+use Prim.Native.Nat.{ℕ, zero, suc, _+_, _-_, _≤_, _<_}
+use native.Mathlib.Nat.{eq-or-lt-of-le, sub-self}
+use native.Mathlib.Numerals.{add-one}
+use native.Mathlib.Omega.{arith}
+use lib.Dec.{leb}
+use Rattle.clauses.specs.Lists.{numbers}
+use Rattle.clauses.proofs.Satisfaction.{false-if-not-true, le-if-leb, leb-if-le}
+use Rattle.meaning.specs.Bounded.{until-over, release-over}
+use Rattle.pairing.specs.NodeLaws.{at-next}
+
+-- ════════ The next value ════════
+
+module _ (k : ℕ) where
+  pub at-next-inside : (f : ℕ → Bool) (end : Bool) (i : ℕ) → i < k → at-next k f end i ≡ f (suc i)
+  at-next-inside f end i h = rw (add-one, leb-if-le (suc i) k h)
+
+  pub at-next-last : (f : ℕ → Bool) (end : Bool) → at-next k f end k ≡ end
+  at-next-last f end = rw (false-if-not-true (leb (k + 1) k) (λ e. let h = le-if-leb (k + 1) k e in omega arith))
+
+  -- Where f itself has the end past k.
+  pub at-next-is : (f : ℕ → Bool) (end : Bool) → f (suc k) ≡ end → (i : ℕ) → i ≤ k → f (suc i) ≡ at-next k f end i
+  at-next-is f end e i h = go (eq-or-lt-of-le h)
+    where
+      go : (i ≡ k) ⊎ (i < k) → f (suc i) ≡ at-next k f end i
+      go (inl q) = rw (q, at-next-last f end) e
+      go (inr h′) = sym (at-next-inside f end i h′)
+
+  pub at-next-same : (f g : ℕ → Bool) (end end′ : Bool) → ((j : ℕ) → j ≤ k → f j ≡ g j) → end ≡ end′ → (i : ℕ) → at-next k f end i ≡ at-next k g end′ i
+  at-next-same f g end end′ same e i = go (leb (i + 1) k) refl
+    where
+      go : (b : Bool) → leb (i + 1) k ≡ b → cond b (f (i + 1)) end ≡ cond b (g (i + 1)) end′
+      go true q = same (i + 1) (le-if-leb (i + 1) k q)
+      go false q = e
+
+  -- What unfolds to the last position by the same steps, from the same end, is the same.
+  pub same-going-down : (step : ℕ → Bool → Bool) (f g : ℕ → Bool) (end end′ : Bool) → end ≡ end′
+      → ((i : ℕ) → i ≤ k → f i ≡ step i (at-next k f end i)) → ((i : ℕ) → i ≤ k → g i ≡ step i (at-next k g end′ i))
+      → (i : ℕ) → i ≤ k → f i ≡ g i
+  same-going-down step f g end end′ e fs gs i h = go (k - i) i (omega arith)
+    where
+      go : (d j : ℕ) → j + d ≡ k → f j ≡ g j
+      go zero j q =
+          let last : j ≡ k = omega arith in
+          rw (last, fs k (omega arith), gs k (omega arith), at-next-last f end, at-next-last g end′, e)
+      go (suc d) j q =
+          let inside : j < k = omega arith in
+          fs j (omega arith)
+          ∙ ap (step j) (at-next-inside f end j inside ∙ go d (suc j) (omega arith) ∙ sym (at-next-inside g end′ j inside))
+          ∙ sym (gs j (omega arith))
+
+-- ════════ U and R to the last position ════════
+
+module _ (k : ℕ) where
+  numbers-first : (i : ℕ) → i ≤ k → numbers i (suc k - i) ≡ i ∷ numbers (suc i) (suc k - suc i)
+  numbers-first i h =
+      let steps : suc (suc k - suc i) ≡ suc k - i = omega arith in
+      subst (λ (n : ℕ). numbers i n ≡ i ∷ numbers (suc i) (suc k - suc i)) steps refl
+
+  module _ (f g : ℕ → Bool) (end : Bool) where
+    pub until-to-last : (i : ℕ) → i ≤ k
+        → until-over f g end (numbers i (suc k - i)) ≡ g i || (f i && at-next k (λ j. until-over f g end (numbers j (suc k - j))) end i)
+    until-to-last i h =
+        ap (until-over f g end) (numbers-first i h)
+        ∙ ap (λ y. g i || (f i && y)) (at-next-is k (λ j. until-over f g end (numbers j (suc k - j))) end (rw sub-self) i h)
+
+    pub release-to-last : (i : ℕ) → i ≤ k
+        → release-over f g end (numbers i (suc k - i)) ≡ g i && (f i || at-next k (λ j. release-over f g end (numbers j (suc k - j))) end i)
+    release-to-last i h =
+        ap (release-over f g end) (numbers-first i h)
+        ∙ ap (λ y. g i && (f i || y)) (at-next-is k (λ j. release-over f g end (numbers j (suc k - j))) end (rw sub-self) i h)

@@ -1,0 +1,253 @@
+-- The bounded meaning satisfies the laws of the node variables, and these leave no other values. Assumes nothing.
+use mathlib.Core.Path.{_≡_, refl, sym, _∙_, ap, fun-ext, subst}
+use mathlib.Core.Logic.{_⊎_, inl, inr}
+use mathlib.Core.Bool.{Bool, true, false, _&&_, _||_, cond}
+use mathlib.Core.List.{List, [], _∷_}
+use Prim.Native.Nat.{ℕ, zero, suc, _-_, _≤_, _<_, zero-le}
+use native.Mathlib.Nat.{eq-or-lt-of-le, le-of-suc-le-suc}
+use native.Mathlib.Numerals.{add-one}
+use native.Mathlib.Omega.{arith}
+use lib.Dec.{leb}
+use lib.ListN.{length, getD}
+use Rattle.clauses.specs.Lists.{numbers}
+use Rattle.meaning.specs.Problem.{Problem, Gate, Left, Node, node, constant, child, atom, both, either, next, until, release}
+use Rattle.meaning.specs.Check.{LeftProper, NodeProper, Proper}
+use Rattle.meaning.specs.Runs.{Position, with-gates, values}
+use Rattle.meaning.specs.Formulas.{Formula, left-tree, tree-of, trees-after}
+use Rattle.meaning.specs.Bounded.{Shape, prefix, lasso, onward, visits, until-over, release-over, release-end, next-in, bounded-value}
+use Rattle.pairing.specs.NodeLaws.{NodeLaws, left-value, at-next, op-value, Q-value, E-value}
+use Rattle.pairing.proofs.Trees.{tree, tree-unfolds}
+use Rattle.pairing.proofs.NextValues.{at-next-inside, at-next-last, at-next-same, same-going-down, until-to-last, release-to-last}
+use Rattle.pairing.proofs.Unrolled.{after-last, after-inside, until-unrolled, until-round, release-unrolled, release-round}
+
+-- The loop starts at 0 to k.
+abbrev pub StartWithin : Shape → Problem → Type 0
+StartWithin prefix p = Unit
+StartWithin (lasso l) p = l ≤ p .bound
+
+-- Variable 0 is false at each position.
+abbrev pub ZeroFalse : (ℕ → List Bool) → Type 0
+ZeroFalse rows = (i : ℕ) → getD (rows i) 0 false ≡ false
+
+-- Gates are added behind the values, so the first stays.
+values-first : (gs : List Gate) (b : Bool) (bs : List Bool) → getD (with-gates gs (b ∷ bs)) 0 false ≡ b
+values-first [] b bs = refl
+values-first (g ∷ gs) b bs = values-first gs b _
+
+pub values-zero-false : (p : Problem) (path : ℕ → Position) → ZeroFalse (λ t. values p (path t))
+unfolding values
+values-zero-false p path t = values-first (p .gates) false _
+
+-- ════════ One op, on a shape ════════
+
+module _ (p : Problem) where
+  next-law : (s : Shape) (f : ℕ → Bool) (i : ℕ) → i ≤ p .bound → next-in s (p .bound) f i ≡ at-next (p .bound) f (E-value s f) i
+  next-law prefix f i h = rw add-one (go (leb (suc i) (p .bound)))
+    where
+      go : (b : Bool) → b && f (suc i) ≡ cond b (f (suc i)) false
+      go true = refl
+      go false = refl
+  next-law (lasso l) f i h = go (eq-or-lt-of-le h)
+    where
+      go : (i ≡ p .bound) ⊎ (i < p .bound) → next-in (lasso l) (p .bound) f i ≡ at-next (p .bound) f (f l) i
+      go (inl q) = rw (q, at-next-last (p .bound) f (f l), after-last l (p .bound))
+      go (inr h′) = rw (at-next-inside (p .bound) f (f l) i h′, after-inside l (p .bound) i h′)
+
+  until-law : (s : Shape) → StartWithin s p → (f g : ℕ → Bool) (i : ℕ) → i ≤ p .bound
+      → let u : ℕ → Bool = λ j. until-over f g false (visits s (p .bound) j) in
+      u i ≡ g i || (f i && at-next (p .bound) u (E-value s u) i)
+  until-law prefix w f g i h = until-to-last (p .bound) f g false i h
+  until-law (lasso l) w f g i h =
+      let round : Bool = until-over f g false (numbers l (suc (p .bound) - l)) in
+      until-unrolled f g l (p .bound) w i h
+      ∙ until-to-last (p .bound) f g round i h
+      ∙ ap (λ y. g i || (f i && y))
+      (at-next-same (p .bound) _ (λ j. until-over f g false (onward l (p .bound) (suc (p .bound)) j)) round _
+      (λ j h′. sym (until-unrolled f g l (p .bound) w j h′)) (sym (until-round f g l (p .bound) w)) i)
+
+  release-law : (s : Shape) → StartWithin s p → (f g : ℕ → Bool) (i : ℕ) → i ≤ p .bound
+      → let r : ℕ → Bool = λ j. release-over f g (release-end s) (visits s (p .bound) j) in
+      r i ≡ g i && (f i || at-next (p .bound) r (E-value s r) i)
+  release-law prefix w f g i h = release-to-last (p .bound) f g false i h
+  release-law (lasso l) w f g i h =
+      let round : Bool = release-over f g true (numbers l (suc (p .bound) - l)) in
+      release-unrolled f g l (p .bound) w i h
+      ∙ release-to-last (p .bound) f g round i h
+      ∙ ap (λ y. g i && (f i || y))
+      (at-next-same (p .bound) _ (λ j. release-over f g true (onward l (p .bound) (suc (p .bound)) j)) round _
+      (λ j h′. sym (release-unrolled f g l (p .bound) w j h′)) (sym (release-round f g l (p .bound) w)) i)
+
+-- ════════ The tables ════════
+
+module _ (p : Problem) (s : Shape) (rows : ℕ → List Bool) where
+  abbrev pub P-of : ℕ → ℕ → Bool
+  P-of n i = bounded-value s (p .bound) rows (tree p n) i
+
+  -- The second pass of a node: to k, where U ends false and R true.
+  abbrev pub Q-over : Node → ℕ → ℕ → Bool
+  Q-over (atom x) n i = P-of n i
+  Q-over (both a b) n i = P-of n i
+  Q-over (either a b) n i = P-of n i
+  Q-over (next a) n i = P-of n i
+  Q-over (until a b) n i = until-over (left-value P-of a) (P-of b) false (numbers i (suc (p .bound) - i))
+  Q-over (release a b) n i = release-over (left-value P-of a) (P-of b) true (numbers i (suc (p .bound) - i))
+
+  abbrev pub Q-of : ℕ → ℕ → Bool
+  Q-of n i = Q-over (node p n) n i
+
+  -- False on a prefix, the value at the start on a lasso.
+  abbrev pub E-of : ℕ → Bool
+  E-of n = E-value s (P-of n)
+
+-- ════════ The tables satisfy the laws ════════
+
+module _ (p : Problem) (rows : ℕ → List Bool) where
+  second-law : (s : Shape) (x : Node) (n i : ℕ) → i ≤ p .bound
+      → Q-over p s rows x n i ≡ Q-value (p .bound) rows (P-of p s rows) (E-of p s rows) (Q-over p s rows x n) x n i
+  second-law s (atom x) n i h = refl
+  second-law s (both a b) n i h = refl
+  second-law s (either a b) n i h = refl
+  second-law s (next a) n i h = refl
+  second-law s (until a b) n i h = until-to-last (p .bound) (left-value (P-of p s rows) a) (P-of p s rows b) false i h
+  second-law s (release a b) n i h = release-to-last (p .bound) (left-value (P-of p s rows) a) (P-of p s rows b) true i h
+
+module _ (p : Problem) (rows : ℕ → List Bool) (zero-false : ZeroFalse rows) where
+  -- A constant on the left is the literal 1 or 0.
+  left-is : (s : Shape) (a : Left) (i : ℕ) → bounded-value s (p .bound) rows (left-tree (trees-after [] (p .nodes)) a) i ≡ left-value (P-of p s rows) a i
+  left-is s (constant true) i = rw (zero-false i)
+  left-is s (constant false) i = zero-false i
+  left-is s (child c) i = refl
+
+  tree-law : (s : Shape) → StartWithin s p → (x : Node) (i : ℕ) → i ≤ p .bound
+      → let f : ℕ → Bool = bounded-value s (p .bound) rows (tree-of (trees-after [] (p .nodes)) x) in
+      f i ≡ op-value (p .bound) rows (P-of p s rows) (E-of p s rows) x i (at-next (p .bound) f (E-value s f) i)
+  tree-law s w (atom x) i h = refl
+  tree-law s w (both a b) i h = refl
+  tree-law s w (either a b) i h = refl
+  tree-law s w (next a) i h = next-law p s (P-of p s rows a) i h
+  tree-law s w (until a b) i h = rw (← left-is s a i) (until-law p s w _ (P-of p s rows b) i h)
+  tree-law s w (release a b) i h = rw (← left-is s a i) (release-law p s w _ (P-of p s rows b) i h)
+
+  -- At the loop's start both passes agree.
+  start-law : (l : ℕ) → l ≤ p .bound → (x : Node) (n : ℕ) → tree p n ≡ tree-of (trees-after [] (p .nodes)) x
+      → P-of p (lasso l) rows n l ≡ Q-over p (lasso l) rows x n l
+  start-law l w (atom x) n e = refl
+  start-law l w (both a b) n e = refl
+  start-law l w (either a b) n e = refl
+  start-law l w (next a) n e = refl
+  start-law l w (until a b) n e =
+      ap (λ t. bounded-value (lasso l) (p .bound) rows t l) e
+      ∙ ap (λ f. until-over f (P-of p (lasso l) rows b) false (onward l (p .bound) (suc (p .bound)) l)) (fun-ext (left-is (lasso l) a))
+      ∙ until-round (left-value (P-of p (lasso l) rows) a) (P-of p (lasso l) rows b) l (p .bound) w
+  start-law l w (release a b) n e =
+      ap (λ t. bounded-value (lasso l) (p .bound) rows t l) e
+      ∙ ap (λ f. release-over f (P-of p (lasso l) rows b) true (onward l (p .bound) (suc (p .bound)) l)) (fun-ext (left-is (lasso l) a))
+      ∙ release-round (left-value (P-of p (lasso l) rows) a) (P-of p (lasso l) rows b) l (p .bound) w
+
+  end-law : (s : Shape) → StartWithin s p → (x : Node) (n : ℕ) → tree p n ≡ tree-of (trees-after [] (p .nodes)) x
+      → E-of p s rows n ≡ E-value s (Q-over p s rows x n)
+  end-law prefix w x n e = refl
+  end-law (lasso l) w x n e = start-law l w x n e
+
+-- The bounded meaning satisfies the laws.
+pub node-laws : {p : Problem} → Proper p → (s : Shape) → StartWithin s p → (rows : ℕ → List Bool) → ZeroFalse rows
+    → NodeLaws p s rows (P-of p s rows) (Q-of p s rows) (E-of p s rows)
+node-laws {p} proper s w rows zero-false = record {
+  P-law = λ n i m h.
+      subst (λ (t : Formula).
+      let f : ℕ → Bool = bounded-value s (p .bound) rows t in
+      f i ≡ op-value (p .bound) rows (P-of p s rows) (E-of p s rows) (node p n) i (at-next (p .bound) f (E-value s f) i))
+      (sym (tree-unfolds proper n m)) (tree-law p rows zero-false s w (node p n) i h);
+  Q-law = λ n i m h. second-law p rows s (node p n) n i h;
+  E-law = λ n m. end-law p rows zero-false s w (node p n) n (tree-unfolds proper n m);
+}
+
+-- ════════ The laws leave no other values ════════
+
+-- Q past k.
+abbrev Q-ends : Node → Bool
+Q-ends (atom x) = false
+Q-ends (both a b) = false
+Q-ends (either a b) = false
+Q-ends (next a) = false
+Q-ends (until a b) = false
+Q-ends (release a b) = true
+
+-- Q unfolds by its node's op too: ops 0 to 3 do not read their own next value.
+Q-unfolds : (k : ℕ) (rows : ℕ → List Bool) (P : ℕ → ℕ → Bool) (E Q : ℕ → Bool) (x : Node) (n i : ℕ) (y : Bool)
+    → Q i ≡ Q-value k rows P E Q x n i → P n i ≡ op-value k rows P E x i y → Q i ≡ op-value k rows P E x i (at-next k Q (Q-ends x) i)
+Q-unfolds k rows P E Q (atom x) n i y q r = q ∙ r
+Q-unfolds k rows P E Q (both a b) n i y q r = q ∙ r
+Q-unfolds k rows P E Q (either a b) n i y q r = q ∙ r
+Q-unfolds k rows P E Q (next a) n i y q r = q ∙ r
+Q-unfolds k rows P E Q (until a b) n i y q r = q
+Q-unfolds k rows P E Q (release a b) n i y q r = q
+
+pub E-same : (p : Problem) (s : Shape) → StartWithin s p → (f g : ℕ → Bool) → ((i : ℕ) → i ≤ p .bound → f i ≡ g i) → E-value s f ≡ E-value s g
+E-same p prefix w f g same = refl
+E-same p (lasso l) w f g same = same l w
+
+-- Where the rows are the same, and P and E of the nodes before n, node n's op has the same value.
+module _ (p : Problem) (rows rows′ : ℕ → List Bool) (P P′ : ℕ → ℕ → Bool) (E E′ : ℕ → Bool) (n : ℕ)
+    (same-rows : (i : ℕ) → i ≤ p .bound → rows i ≡ rows′ i)
+    (same-P : (m i : ℕ) → m < n → i ≤ p .bound → P m i ≡ P′ m i) (same-E : (m : ℕ) → m < n → E m ≡ E′ m) where
+  left-same : (a : Left) → LeftProper n a → (i : ℕ) → i ≤ p .bound → left-value P a i ≡ left-value P′ a i
+  left-same (constant b) l i h = refl
+  left-same (child c) l i h = same-P c i l h
+
+  pub op-same : (x : Node) → NodeProper p n x → (i : ℕ) → i ≤ p .bound → (y : Bool)
+      → op-value (p .bound) rows P E x i y ≡ op-value (p .bound) rows′ P′ E′ x i y
+  op-same (atom x) l i h y = rw (same-rows i h)
+  op-same (both a b) l i h y = rw (same-P a i (l .0) h, same-P b i (l .1) h)
+  op-same (either a b) l i h y = rw (same-P a i (l .0) h, same-P b i (l .1) h)
+  op-same (next a) l i h y = at-next-same (p .bound) (P a) (P′ a) (E a) (E′ a) (λ j q. same-P a j l q) (same-E a l) i
+  op-same (until a b) l i h y = rw (left-same a (l .0) i h, same-P b i (l .1) h)
+  op-same (release a b) l i h y = rw (left-same a (l .0) i h, same-P b i (l .1) h)
+
+module _ (p : Problem) (rows : ℕ → List Bool) (P Q P′ Q′ : ℕ → ℕ → Bool) (E E′ : ℕ → Bool) where
+  abbrev SameAt : ℕ → Type 0
+  SameAt n = (i : ℕ) → i ≤ p .bound → (P n i ≡ P′ n i) × (Q n i ≡ Q′ n i) × (E n ≡ E′ n)
+
+  abbrev SameBefore : ℕ → Type 0
+  SameBefore n = (m : ℕ) → m < n → SameAt m
+
+  module _ (s : Shape) (proper : Proper p) (w : StartWithin s p) (laws : NodeLaws p s rows P Q E) (laws′ : NodeLaws p s rows P′ Q′ E′) where
+    same-node : (n : ℕ) → n < length (p .nodes) → SameBefore n → SameAt n
+    same-node n m before i h = (P-same i h, Q-same i h, E-end)
+      where
+        step : ℕ → Bool → Bool
+        step = op-value (p .bound) rows P E (node p n)
+
+        other : (j : ℕ) → j ≤ p .bound → (y : Bool) → op-value (p .bound) rows P′ E′ (node p n) j y ≡ step j y
+        other j r y =
+            sym (op-same p rows rows P P′ E E′ n (λ t q. refl) (λ c t q h′. before c q t h′ .0) (λ c q. before c q 0 zero-le .2)
+            (node p n) (proper .nodes-proper n m) j r y)
+
+        Q-same : (j : ℕ) → j ≤ p .bound → Q n j ≡ Q′ n j
+        Q-same =
+            same-going-down (p .bound) step (Q n) (Q′ n) (Q-ends (node p n)) (Q-ends (node p n)) refl
+            (λ j r. Q-unfolds (p .bound) rows P E (Q n) (node p n) n j _ (laws .Q-law n j m r) (laws .P-law n j m r))
+            (λ j r. Q-unfolds (p .bound) rows P′ E′ (Q′ n) (node p n) n j _ (laws′ .Q-law n j m r) (laws′ .P-law n j m r) ∙ other j r _)
+
+        E-end : E n ≡ E′ n
+        E-end = laws .E-law n m ∙ E-same p s w (Q n) (Q′ n) Q-same ∙ sym (laws′ .E-law n m)
+
+        P-same : (j : ℕ) → j ≤ p .bound → P n j ≡ P′ n j
+        P-same =
+            same-going-down (p .bound) step (P n) (P′ n) (E n) (E′ n) E-end
+            (λ j r. laws .P-law n j m r) (λ j r. laws′ .P-law n j m r ∙ other j r _)
+
+    same-before : (n : ℕ) → n ≤ length (p .nodes) → SameBefore n
+    same-before zero l m r = absurd (omega arith)
+    same-before (suc n) l m r = go (eq-or-lt-of-le (le-of-suc-le-suc r)) (same-before n (omega arith))
+      where
+        go : (m ≡ n) ⊎ (m < n) → SameBefore n → SameAt m
+        go (inl e) before = rw e (same-node n l before)
+        go (inr r′) before = before m r′
+
+-- Any two tables that satisfy the laws are the same.
+pub node-laws-determine : {p : Problem} {s : Shape} {rows : ℕ → List Bool} {P Q P′ Q′ : ℕ → ℕ → Bool} {E E′ : ℕ → Bool}
+    → Proper p → StartWithin s p → NodeLaws p s rows P Q E → NodeLaws p s rows P′ Q′ E′
+    → (n i : ℕ) → n < length (p .nodes) → i ≤ p .bound → (P n i ≡ P′ n i) × (Q n i ≡ Q′ n i) × (E n ≡ E′ n)
+node-laws-determine {p} {s} {rows} {P} {Q} {P′} {Q′} {E} {E′} proper w laws laws′ n i l h =
+    same-before p rows P Q P′ Q′ E E′ s proper w laws laws′ (suc n) l n (omega arith) i h

@@ -1,0 +1,97 @@
+-- The run that a witness shows: its inputs, first latches and next latches, and their lengths. Assumes nothing.
+use mathlib.Core.Path.{_≡_, refl, _∙_, ap}
+use mathlib.Core.Bool.{Bool, true}
+use mathlib.Core.List.{List, [], _∷_, map}
+use Prim.Native.Nat.{ℕ, zero, suc, _+_, _<_, _≤_}
+use native.Mathlib.Nat.{le-of-suc-le-suc, not-suc-le-zero, mul-le-mul-left, mul-suc, add-zero, zero-add}
+use native.Mathlib.Omega.{arith}
+use lib.ListN.{length, getD, length-map, length-take, length-drop}
+use Rattle.clauses.specs.Lists.{numbers, all-of}
+use Rattle.clauses.proofs.Satisfaction.{all-of-at, all-of-if-at}
+use Rattle.meaning.specs.Problem.{Problem}
+use Rattle.meaning.specs.Runs.{Position, next-values, run-from}
+use Rattle.meaning.specs.Witnesses.{witness-length, first-latches, inputs-at, run, position}
+
+-- ════════ Numbers in a row ════════
+
+pub length-numbers : (i n : ℕ) → length (numbers i n) ≡ n
+length-numbers i zero = refl
+length-numbers i (suc n) = ap suc (length-numbers (suc i) n)
+
+pub getD-numbers : (i n j d : ℕ) → j < n → getD (numbers i n) j d ≡ i + j
+getD-numbers i zero j d h = absurd (not-suc-le-zero h)
+getD-numbers i (suc n) zero d h = rw add-zero
+getD-numbers i (suc n) (suc j) d h = getD-numbers (suc i) n j d (le-of-suc-le-suc h) ∙ omega arith
+
+getD-mapped : {A : Type 0} (f : ℕ → A) (i n j : ℕ) (d : A) → j < n → getD (map f (numbers i n)) j d ≡ f (i + j)
+getD-mapped f i zero j d h = absurd (not-suc-le-zero h)
+getD-mapped f i (suc n) zero d h = rw add-zero
+getD-mapped f i (suc n) (suc j) d h = getD-mapped f (suc i) n j d (le-of-suc-le-suc h) ∙ ap f (omega arith)
+
+module _ (f : ℕ → Bool) (n : ℕ) where
+  pub all-of-numbers : all-of f (numbers 0 n) ≡ true → (j : ℕ) → j < n → f j ≡ true
+  all-of-numbers e j h =
+      rw (getD-numbers 0 n j 0 h, zero-add) at (all-of-at f (numbers 0 n) j 0 e (omega (arith, length-numbers 0 n)))
+
+  pub all-of-numbers-if : ((j : ℕ) → j < n → f j ≡ true) → all-of f (numbers 0 n) ≡ true
+  all-of-numbers-if h = all-of-if-at f (numbers 0 n) 0 (λ j q.
+      let q′ : j < n = omega (arith, length-numbers 0 n) in rw (getD-numbers 0 n j 0 q′, zero-add) (h j q′))
+
+-- ════════ Runs ════════
+
+module _ (p : Problem) where
+  run-first : (ls : List Bool) (rs : List (List Bool)) (d : Position) → 0 < length rs → getD (run-from p ls rs) 0 d .latches ≡ ls
+  run-first ls [] d h = absurd (not-suc-le-zero h)
+  run-first ls (r ∷ rs) d h = refl
+
+  run-inputs : (ls : List Bool) (rs : List (List Bool)) (t : ℕ) (d : Position) → t < length rs
+      → getD (run-from p ls rs) t d .inputs ≡ getD rs t []
+  run-inputs ls [] t d h = absurd (not-suc-le-zero h)
+  run-inputs ls (r ∷ rs) zero d h = refl
+  run-inputs ls (r ∷ rs) (suc t) d h = run-inputs (next-values p (record { inputs = r; latches = ls })) rs t d (le-of-suc-le-suc h)
+
+  run-steps : (ls : List Bool) (rs : List (List Bool)) (t : ℕ) (d : Position) → suc t < length rs
+      → getD (run-from p ls rs) (suc t) d .latches ≡ next-values p (getD (run-from p ls rs) t d)
+  run-steps ls [] t d h = absurd (not-suc-le-zero h)
+  run-steps ls (r ∷ rs) zero d h = run-first (next-values p (record { inputs = r; latches = ls })) rs d (le-of-suc-le-suc h)
+  run-steps ls (r ∷ rs) (suc t) d h = run-steps (next-values p (record { inputs = r; latches = ls })) rs t d (le-of-suc-le-suc h)
+
+-- ════════ The run of a witness ════════
+
+module _ (p : Problem) (bs : List ℕ) where
+  abbrev rows-of-inputs : List (List Bool)
+  rows-of-inputs = map (inputs-at p bs) (numbers 0 (p .bound + 1))
+
+  how-many : length (map (inputs-at p bs) (numbers 0 (p .bound + 1))) ≡ p .bound + 1
+  how-many = simp (length-map, length-numbers)
+
+  pub position-first : position p bs 0 .latches ≡ first-latches p bs
+  unfolding run
+  position-first = run-first p (first-latches p bs) rows-of-inputs _ (omega (arith, how-many))
+
+  pub position-inputs : (t : ℕ) → t ≤ p .bound → position p bs t .inputs ≡ inputs-at p bs t
+  unfolding run
+  position-inputs t h =
+      run-inputs p (first-latches p bs) rows-of-inputs t _ (omega (arith, how-many))
+      ∙ getD-mapped (inputs-at p bs) 0 (p .bound + 1) t [] (omega arith) ∙ ap (inputs-at p bs) (zero-add t)
+
+  pub position-next : (t : ℕ) → t < p .bound → position p bs (suc t) .latches ≡ next-values p (position p bs t)
+  unfolding run
+  position-next t h = run-steps p (first-latches p bs) rows-of-inputs t _ (omega (arith, how-many))
+
+pub length-next-values : (p : Problem) (x : Position) → length (next-values p x) ≡ length (p .latches)
+unfolding next-values
+length-next-values p x = simp length-map
+
+module _ (p : Problem) (bs : List ℕ) (right : length bs ≡ witness-length p) where
+  pub length-first-latches : length (first-latches p bs) ≡ length (p .latches)
+  length-first-latches = simp (length-map, length-take, length-drop) (omega arith)
+
+  pub length-inputs-at : (t : ℕ) → t ≤ p .bound → length (inputs-at p bs t) ≡ p .inputs
+  length-inputs-at t h =
+      simp (length-map, length-take, length-drop)
+      (omega (arith, mul-suc (p .inputs) t, mul-le-mul-left {m = suc t} {n = p .bound + 1} (p .inputs) (omega arith)))
+
+  pub length-latches : (t : ℕ) → t ≤ p .bound → length (position p bs t .latches) ≡ length (p .latches)
+  length-latches zero h = rw position-first length-first-latches
+  length-latches (suc t) h = rw (position-next p bs t h) (length-next-values p _)

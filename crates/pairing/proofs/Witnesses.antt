@@ -1,0 +1,215 @@
+-- The bytes that the judge accepts are the witnesses. Assumes nothing.
+use mathlib.Core.Path.{_≡_, refl, sym, _∙_}
+use mathlib.Core.Logic.{_↔_}
+use mathlib.Core.Bool.{Bool, true, false, Bool·beq}
+use mathlib.Core.List.{List, [], _∷_, _++_, map}
+use Prim.Native.Nat.{ℕ, zero, suc, _+_, _<_, _≤_, zero-le, suc-le-suc}
+use native.Mathlib.Nat.{le-of-suc-le-suc, not-suc-le-zero, add-zero, zero-add}
+use native.Mathlib.Omega.{arith}
+use lib.Dec.{leb, eqb}
+use lib.ListN.{length, getD}
+use lib.Seq.{ext-getD}
+use Rattle.clauses.specs.Lists.{numbers, numbered, all-of}
+use Rattle.clauses.specs.Answers.{Check, check, granted}
+use Rattle.clauses.proofs.Satisfaction.{both-true, first-true, second-true, le-if-leb, leb-if-le, eq-if-eqb, eqb-self, all-of-append, all-of-first, all-of-second, all-of-numbered, all-of-map}
+use Rattle.clauses.proofs.Answers.{passing, refusing, first-failing-passed, all-pass-if-granted, after-if-granted}
+use Rattle.meaning.specs.Answers.{bad-witness, against-reset, open-loop}
+use Rattle.meaning.specs.Problem.{Problem, latch}
+use Rattle.meaning.specs.Runs.{next-values, meets-reset, StartsRight}
+use Rattle.meaning.specs.Formulas.{formula}
+use Rattle.meaning.specs.Bounded.{Shape, prefix, lasso, bounded-value}
+use Rattle.meaning.specs.Witnesses.{witness-length, byte, shape-of, shape, first-latches, position, rows, Closes, Shows, Witness, byte-limit, byte-checks, reset-checks, loop-checks, formula-check, judge-formula, judge-run, judge-bytes}
+use Rattle.pairing.proofs.Loops.{shifted}
+use Rattle.pairing.proofs.Meaning.{lasso-value}
+use Rattle.pairing.proofs.Runs.{all-of-numbers, all-of-numbers-if, length-next-values, length-latches}
+
+-- ════════ The order of the judge's checks ════════
+
+record Passed (p : Problem) (bs : List ℕ) : Type 0 where
+  bytes-pass : all-of passing (byte-checks p bs) ≡ true
+  resets-pass : all-of passing (reset-checks p bs) ≡ true
+  loop-passes : all-of passing (loop-checks p bs (shape bs)) ≡ true
+  formula-passes : bounded-value (shape bs) (p .bound) (rows p bs) (formula p) 0 ≡ true
+
+each-refusing : (c : ℕ → Check) (is : List ℕ) → ((i : ℕ) → refusing (c i) ≡ true) → all-of refusing (map c is) ≡ true
+each-refusing c [] h = refl
+each-refusing c (i ∷ is) h = both-true (h i) (each-refusing c is h)
+
+module _ (p : Problem) (bs : List ℕ) where
+  pub byte-checks-refusing : all-of refusing (byte-checks p bs) ≡ true
+  byte-checks-refusing = all-of-numbered refusing 0 bs _ (λ i b. refl)
+
+  reset-checks-refusing : all-of refusing (reset-checks p bs) ≡ true
+  reset-checks-refusing = each-refusing _ (numbers 0 (length (p .latches))) (λ i. refl)
+
+  loop-checks-refusing : (s : Shape) → all-of refusing (loop-checks p bs s) ≡ true
+  loop-checks-refusing prefix = refl
+  loop-checks-refusing (lasso l) = each-refusing _ (numbers 0 (length (p .latches))) (λ i. refl)
+
+  pub run-checks-refusing : all-of refusing (reset-checks p bs ++ loop-checks p bs (shape bs)) ≡ true
+  run-checks-refusing =
+      all-of-append refusing (reset-checks p bs) (loop-checks p bs (shape bs))
+      ∙ both-true reset-checks-refusing (loop-checks-refusing (shape bs))
+
+  passed-if-granted : judge-bytes p bs ≡ granted 0 → Passed p bs
+  unfolding judge-bytes judge-run judge-formula
+  passed-if-granted e =
+      let run-granted = after-if-granted (byte-checks p bs) (judge-run p bs) byte-checks-refusing e in
+      let run-passes = all-pass-if-granted (reset-checks p bs ++ loop-checks p bs (shape bs)) (judge-formula p bs) run-checks-refusing run-granted in
+      let formula-granted = after-if-granted (reset-checks p bs ++ loop-checks p bs (shape bs)) (judge-formula p bs) run-checks-refusing run-granted in
+      record {
+        bytes-pass = all-pass-if-granted (byte-checks p bs) (judge-run p bs) byte-checks-refusing e;
+        resets-pass = all-of-first passing (reset-checks p bs) (loop-checks p bs (shape bs)) run-passes;
+        loop-passes = all-of-second passing (reset-checks p bs) (loop-checks p bs (shape bs)) run-passes;
+        formula-passes = first-true _ true (all-pass-if-granted (formula-check p bs ∷ []) (granted 0) refl formula-granted);
+      }
+
+  granted-if-passed : Passed p bs → judge-bytes p bs ≡ granted 0
+  unfolding judge-bytes judge-run judge-formula
+  granted-if-passed q =
+      first-failing-passed (byte-checks p bs) (judge-run p bs) (q .bytes-pass)
+      ∙ first-failing-passed (reset-checks p bs ++ loop-checks p bs (shape bs)) (judge-formula p bs)
+      (all-of-append passing (reset-checks p bs) (loop-checks p bs (shape bs)) ∙ both-true (q .resets-pass) (q .loop-passes))
+      ∙ first-failing-passed (formula-check p bs ∷ []) (granted 0) (both-true (q .formula-passes) refl)
+
+-- ════════ The bytes ════════
+
+module _ {A : Type 0} (f : A → Bool) (g : ℕ → ℕ → A) where
+  all-of-numbered-at : (i : ℕ) (bs : List ℕ) (j : ℕ) → all-of f (numbered i bs g) ≡ true → j < length bs → f (g (i + j) (byte bs j)) ≡ true
+  all-of-numbered-at i [] j e h = absurd (not-suc-le-zero h)
+  all-of-numbered-at i (b ∷ bs) zero e h = rw add-zero (first-true (f (g i b)) _ e)
+  all-of-numbered-at i (b ∷ bs) (suc j) e h =
+      rw (← shifted) (all-of-numbered-at (suc i) bs j (second-true (f (g i b)) _ e) (le-of-suc-le-suc h))
+
+  all-of-numbered-if-at : (i : ℕ) (bs : List ℕ) → ((j : ℕ) → j < length bs → f (g (i + j) (byte bs j)) ≡ true)
+      → all-of f (numbered i bs g) ≡ true
+  all-of-numbered-if-at i [] h = refl
+  all-of-numbered-if-at i (b ∷ bs) h =
+      both-true (rw add-zero at (h 0 (suc-le-suc zero-le)))
+      (all-of-numbered-if-at (suc i) bs (λ j q. rw shifted (h (suc j) (suc-le-suc q))))
+
+module _ (p : Problem) (bs : List ℕ) where
+  abbrev byte-check : ℕ → ℕ → Check
+  byte-check i b = check (leb b (byte-limit p i)) (bad-witness i)
+
+  length-if-passes : all-of passing (byte-checks p bs) ≡ true → length bs ≡ witness-length p
+  length-if-passes e = eq-if-eqb (length bs) (witness-length p) (first-true _ _ e)
+
+  bytes-if-pass : all-of passing (byte-checks p bs) ≡ true → (i : ℕ) → i < length bs → byte bs i ≤ byte-limit p i
+  bytes-if-pass e i h =
+      le-if-leb (byte bs i) (byte-limit p i)
+      (rw zero-add at (all-of-numbered-at passing byte-check 0 bs i (second-true (eqb (length bs) (witness-length p)) _ e) h))
+
+  pass-if-bytes : length bs ≡ witness-length p → ((i : ℕ) → i < length bs → byte bs i ≤ byte-limit p i)
+      → all-of passing (byte-checks p bs) ≡ true
+  pass-if-bytes e h =
+      let same-length : eqb (length bs) (witness-length p) ≡ true = rw e (eqb-self (witness-length p)) in
+      both-true same-length
+      (all-of-numbered-if-at passing byte-check 0 bs (λ i q. rw zero-add (leb-if-le (byte bs i) (byte-limit p i) (h i q))))
+
+-- ════════ The resets ════════
+
+module _ (p : Problem) (bs : List ℕ) where
+  abbrev reset-test : ℕ → Bool
+  reset-test i = meets-reset (latch p i .reset) (getD (first-latches p bs) i false)
+
+  abbrev reset-check : ℕ → Check
+  reset-check i = check (reset-test i) (against-reset (1 + i))
+
+  starts-if-passes : all-of passing (reset-checks p bs) ≡ true → StartsRight p (first-latches p bs)
+  starts-if-passes e =
+      all-of-numbers reset-test (length (p .latches)) (sym (all-of-map passing reset-check (numbers 0 (length (p .latches)))) ∙ e)
+
+  passes-if-starts : StartsRight p (first-latches p bs) → all-of passing (reset-checks p bs) ≡ true
+  passes-if-starts h = all-of-map passing reset-check (numbers 0 (length (p .latches))) ∙ all-of-numbers-if reset-test (length (p .latches)) h
+
+-- ════════ The loop and the formula ════════
+
+eq-if-beq : (a b : Bool) → Bool·beq a b ≡ true → a ≡ b
+eq-if-beq true true e = refl
+eq-if-beq true false e = sym e
+eq-if-beq false true e = e
+eq-if-beq false false e = refl
+
+beq-self : (a : Bool) → Bool·beq a a ≡ true
+beq-self true = refl
+beq-self false = refl
+
+-- "A lasso with start l, 0 to k"
+abbrev pub Fits : ℕ → Shape → Type 0
+Fits k prefix = Unit
+Fits k (lasso l) = l ≤ k
+
+pub shape-fits : (k b : ℕ) → b ≤ k + 1 → Fits k (shape-of b)
+shape-fits k zero h = tt
+shape-fits k (suc l) h = omega arith
+
+module _ (p : Problem) (bs : List ℕ) where
+  abbrev loop-test : ℕ → ℕ → Bool
+  loop-test l i = Bool·beq (getD (next-values p (position p bs (p .bound))) i false) (getD (position p bs l .latches) i false)
+
+  abbrev loop-check : ℕ → ℕ → Check
+  loop-check l i = check (loop-test l i) (open-loop i)
+
+  closes-if-passes : (l : ℕ) → length bs ≡ witness-length p → l ≤ p .bound → all-of passing (loop-checks p bs (lasso l)) ≡ true → Closes p bs l
+  closes-if-passes l right fits e =
+      ext-getD false (next-values p (position p bs (p .bound))) (position p bs l .latches)
+      (length-next-values p (position p bs (p .bound)) ∙ sym (length-latches p bs right l fits))
+      (λ i h. eq-if-beq _ _
+      (all-of-numbers (loop-test l) (length (p .latches)) (sym (all-of-map passing (loop-check l) (numbers 0 (length (p .latches)))) ∙ e)
+      i (rw (length-next-values p (position p bs (p .bound))) at h)))
+
+  passes-if-closes : (l : ℕ) → Closes p bs l → all-of passing (loop-checks p bs (lasso l)) ≡ true
+  passes-if-closes l e =
+      all-of-map passing (loop-check l) (numbers 0 (length (p .latches)))
+      ∙ all-of-numbers-if (loop-test l) (length (p .latches)) (λ i h. rw e (beq-self (getD (position p bs l .latches) i false)))
+
+  shows-if-passes : (s : Shape) → length bs ≡ witness-length p → Fits (p .bound) s → all-of passing (loop-checks p bs s) ≡ true
+      → bounded-value s (p .bound) (rows p bs) (formula p) 0 ≡ true → Shows p bs s
+  shows-if-passes prefix right fits loop e = e
+  shows-if-passes (lasso l) right fits loop e =
+      (closes-if-passes l right fits loop, lasso-value l (p .bound) fits (rows p bs) (formula p) 0 .0 e)
+
+  loop-if-shows : (s : Shape) → Shows p bs s → all-of passing (loop-checks p bs s) ≡ true
+  loop-if-shows prefix h = refl
+  loop-if-shows (lasso l) h = passes-if-closes l (h .0)
+
+  pub value-if-shows : (s : Shape) → Fits (p .bound) s → Shows p bs s → bounded-value s (p .bound) (rows p bs) (formula p) 0 ≡ true
+  value-if-shows prefix fits h = h
+  value-if-shows (lasso l) fits h = lasso-value l (p .bound) fits (rows p bs) (formula p) 0 .1 (h .1)
+
+-- ════════ Accepted bytes are witnesses ════════
+
+module _ (p : Problem) (bs : List ℕ) where
+  witness-if-passed : Passed p bs → Witness p bs
+  witness-if-passed q =
+      let right = length-if-passes p bs (q .bytes-pass) in
+      let limits = bytes-if-pass p bs (q .bytes-pass) in
+      let start : byte bs 0 ≤ p .bound + 1 = limits 0 (omega arith) in
+      record {
+        length-right = right;
+        start-in-range = start;
+        bits-in-range = bits limits;
+        starts-right = starts-if-passes p bs (q .resets-pass);
+        shows = shows-if-passes p bs (shape bs) right (shape-fits (p .bound) (byte bs 0) start) (q .loop-passes) (q .formula-passes);
+      }
+    where
+      bits : ((i : ℕ) → i < length bs → byte bs i ≤ byte-limit p i) → (i : ℕ) → 1 ≤ i → i < length bs → byte bs i ≤ 1
+      bits limits zero h q = absurd (not-suc-le-zero h)
+      bits limits (suc i) h q = limits (suc i) q
+
+  passed-if-witness : Witness p bs → Passed p bs
+  passed-if-witness w = record {
+    bytes-pass = pass-if-bytes p bs (w .length-right) limits;
+    resets-pass = passes-if-starts p bs (w .starts-right);
+    loop-passes = loop-if-shows p bs (shape bs) (w .shows);
+    formula-passes = value-if-shows p bs (shape bs) (shape-fits (p .bound) (byte bs 0) (w .start-in-range)) (w .shows);
+  }
+    where
+      limits : (i : ℕ) → i < length bs → byte bs i ≤ byte-limit p i
+      limits zero h = w .start-in-range
+      limits (suc i) h = w .bits-in-range (suc i) (suc-le-suc zero-le) h
+
+  -- The judge accepts exactly the witnesses.
+  pub accepted-is-witness : (judge-bytes p bs ≡ granted 0) ↔ Witness p bs
+  accepted-is-witness = (λ e. witness-if-passed (passed-if-granted p bs e), λ w. granted-if-passed p bs (passed-if-witness w))

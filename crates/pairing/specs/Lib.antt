@@ -1,0 +1,7 @@
+-- What the theorems of this crate say that the crates below do not name: the laws of the node variables, models, bytes, bounds.
+pub mod NodeLaws
+pub mod ModelLaws
+pub mod Layout
+pub mod Bytes
+pub mod Bounds
+pub mod Pairs

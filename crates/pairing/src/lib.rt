@@ -1,0 +1,1 @@
+// A pure crate: the definitions are in specs/, their laws in proofs/.
