@@ -1,0 +1,89 @@
+-- Each promise decides its answer: two answers that meet it are equal. The other readers' promises are equations already.
+-- Assumes nothing.
+use mathlib.Core.Path.{_≡_, refl, sym, _∙_, ap}
+use mathlib.Core.List.{List, [], _∷_}
+use Prim.Native.Nat.{ℕ}
+use native.Mathlib.Omega.{arith}
+use lib.ListN.{getD}
+use Rattle.clauses.specs.Answers.{Answer}
+use Rattle.meaning.specs.Problem as Problem
+use Rattle.problem.specs.declared.Refusal.{Refusal}
+use Rattle.problem.specs.declared.Refusal.the-variants.{BadVersion, BadLength, OutsideLimits, BadReset, BadLiteral, BadNode}
+use Rattle.problem.specs.declared.Checked.{Checked}
+use Rattle.problem.specs.declared.Checked.the-variants.{Good, Refused}
+use Rattle.problem.specs.declared.Left.{Left}
+use Rattle.problem.specs.declared.Left.the-variants.{Constant, Child}
+use Rattle.problem.specs.declared.Node.{Node}
+use Rattle.problem.specs.declared.Node.the-variants.{Atom, Both, Either, Next, Until, Release}
+use Rattle.problem.specs.Promise.{refusal-answer, answer-of, Sized, CheckedAs, left-of, node-read}
+
+-- ════════ The refusals ════════
+
+-- The refusal of each number up to that of a bad node, of which 0 is none; past them only the version is left.
+abbrev refusals : List (ℕ → Refusal)
+refusals = (λ p. BadVersion) ∷ BadLength ∷ OutsideLimits ∷ BadReset ∷ BadLiteral ∷ BadNode ∷ []
+
+abbrev refusal-back : Answer → Refusal
+refusal-back a = getD refusals (a .number) (λ p. BadVersion) (a .place)
+
+refusal-back-of : (f : Refusal) → refusal-back (refusal-answer f) ≡ f
+refusal-back-of BadVersion = refl
+refusal-back-of (BadLength n) = refl
+refusal-back-of (OutsideLimits i) = refl
+refusal-back-of (BadReset i) = refl
+refusal-back-of (BadLiteral i) = refl
+refusal-back-of (BadNode i) = refl
+
+pub refusal-unique : (f f′ : Refusal) → refusal-answer f ≡ refusal-answer f′ → f ≡ f′
+refusal-unique f f′ e = sym (refusal-back-of f) ∙ ap refusal-back e ∙ refusal-back-of f′
+
+-- No refusal has the number of a yes.
+pub refusal-not-yes : (f : Refusal) → refusal-answer f .number ≡ 0 → ⊥
+refusal-not-yes BadVersion e = omega arith
+refusal-not-yes (BadLength n) e = omega arith
+refusal-not-yes (OutsideLimits i) e = omega arith
+refusal-not-yes (BadReset i) e = omega arith
+refusal-not-yes (BadLiteral i) e = omega arith
+refusal-not-yes (BadNode i) e = omega arith
+
+-- ════════ The check ════════
+
+-- Two outcomes with one answer: both the sizes of the words, or one refusal.
+same-outcome : (ws : List ℕ) (r r′ : Checked) → Sized ws r → Sized ws r′ → answer-of r ≡ answer-of r′ → r ≡ r′
+same-outcome ws (Good s) (Good s′) z z′ e = ap Good (z ∙ sym z′)
+same-outcome ws (Good s) (Refused f) z z′ e = absurd (refusal-not-yes f (ap (λ (a : Answer). a .number) (sym e)))
+same-outcome ws (Refused f) (Good s) z z′ e = absurd (refusal-not-yes f (ap (λ (a : Answer). a .number) e))
+same-outcome ws (Refused f) (Refused f′) z z′ e = ap Refused (refusal-unique f f′ e)
+
+pub checked-unique : (version : ℕ) (ws : List ℕ) (r r′ : Checked) → CheckedAs version ws r → CheckedAs version ws r′ → r ≡ r′
+checked-unique version ws r r′ a a′ = same-outcome ws r r′ (a .sized) (a′ .sized) (a .answered ∙ sym (a′ .answered))
+
+-- ════════ The nodes ════════
+
+abbrev left-back : Problem.Left → Left
+left-back (Problem.constant b) = Constant b
+left-back (Problem.child c) = Child c
+
+left-back-of : (l : Left) → left-back (left-of l) ≡ l
+left-back-of (Constant b) = refl
+left-back-of (Child c) = refl
+
+abbrev node-back : Problem.Node → Node
+node-back (Problem.atom x) = Atom x
+node-back (Problem.both a b) = Both a b
+node-back (Problem.either a b) = Either a b
+node-back (Problem.next a) = Next a
+node-back (Problem.until a b) = Until (left-back a) b
+node-back (Problem.release a b) = Release (left-back a) b
+
+node-back-of : (r : Node) → node-back (node-read r) ≡ r
+node-back-of (Atom x) = refl
+node-back-of (Both a b) = refl
+node-back-of (Either a b) = refl
+node-back-of (Next a) = refl
+node-back-of (Until a b) = rw left-back-of
+node-back-of (Release a b) = rw left-back-of
+
+-- What `shape` and `node` promise: of two nodes that read alike each is the other.
+pub node-unique : (r r′ : Node) → node-read r ≡ node-read r′ → r ≡ r′
+node-unique r r′ e = sym (node-back-of r) ∙ ap node-back e ∙ node-back-of r′

@@ -1,0 +1,19 @@
+-- `gate_right` meets its contract: it reads the word at its place. Assumes nothing.
+use borrow.Author.Needs.{needs}
+use Rattle.problem.proofs.read.gate_right.Statement.{statement}
+use Rattle.problem.proofs.read.gate_right.Tie as tie
+
+gate-place-requires : tie.Need-gate-place-requires
+gate-place-requires c κs = search needs
+
+add-word-at : tie.Need-add-word-at
+add-word-at c = search needs
+
+word-at-requires : tie.Need-word-at-requires
+word-at-requires c κs = search needs
+
+returns : tie.Need-returns
+returns c = rw (c .word-at .ensures, c .before .gate-place .ensures)
+
+pub gate-right-spec : {M : Type 1} → statement M
+gate-right-spec = tie.close (tie.spec gate-place-requires add-word-at word-at-requires returns)

@@ -1,0 +1,2 @@
+-- What the check of a problem and the readers of its words promise.
+pub mod Promise

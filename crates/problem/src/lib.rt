@@ -1,0 +1,46 @@
+// Checks a problem, and reads its parts.
+pub mod check;
+pub mod read;
+
+// The sizes of a problem, and where its gates and its nodes begin in its words.
+pub struct Sizes {
+    pub inputs: u32,
+    pub latches: u32,
+    pub gates: u32,
+    pub nodes: u32,
+    pub bound: u32,
+    pub gates_from: u32,
+    pub nodes_from: u32,
+}
+
+// Document 01's refusals of a problem; specs/Promise.antt gives the number of each.
+pub enum Refusal {
+    BadVersion,
+    BadLength(usize),
+    OutsideLimits(usize),
+    BadReset(usize),
+    BadLiteral(usize),
+    BadNode(usize),
+}
+
+// The outcome of the check: the sizes of a good problem, or the refusal.
+pub enum Checked {
+    Good(Sizes),
+    Refused(Refusal),
+}
+
+// What stands on the left of U and R: a node, or a constant where the op is F or G.
+pub enum Left {
+    Constant(bool),
+    Child(u32),
+}
+
+// A node by its shape. F is U and G is R with a constant on the left.
+pub enum Node {
+    Atom(u32),
+    Both(u32, u32),
+    Either(u32, u32),
+    Next(u32),
+    Until(Left, u32),
+    Release(Left, u32),
+}
