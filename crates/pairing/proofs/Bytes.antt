@@ -3,7 +3,7 @@ use mathlib.Core.Path.{_≡_, refl, sym, _∙_, ap, ap₂}
 use mathlib.Core.Bool.{Bool, true, false, cond}
 use mathlib.Core.List.{List, [], _∷_, _++_, map}
 use Prim.Native.Nat.{ℕ, zero, suc, _+_, _*_, _<_, _≤_, zero-le, suc-le-suc}
-use native.Mathlib.Nat.{le-of-suc-le-suc, not-suc-le-zero, add-zero, zero-add, mul-zero, mul-suc, mul-le-mul-left}
+use native.Mathlib.Nat.{le-of-suc-le-suc, not-suc-le-zero, add-zero, zero-add, mul-zero, mul-suc, mul-comm, mul-le-mul-left}
 use native.Mathlib.Omega.{arith}
 use lib.Dec.{eqb, leb}
 use lib.ListN.{length, getD, take, drop, length-append, length-drop, List·getD-map, take-append-drop}
@@ -15,18 +15,13 @@ use Rattle.meaning.specs.Bounded.{prefix, lasso}
 use Rattle.meaning.specs.Witnesses.{witness-length, byte, shape-of, shape, bits, first-latches, inputs-at}
 use Rattle.meaning.proofs.Numbers.{length-map-numbers, getD-map-numbers, all-of-each}
 use Rattle.pairing.specs.ModelLaws.{Reading, all-positions}
+use Rattle.pairing.proofs.Loops.{shifted}
+use Rattle.pairing.proofs.Blocks.{length-each}
 use Rattle.pairing.specs.Bytes.{first-chosen, chosen-of, bit-byte, latch-bytes, input-bytes, bytes-of-reading}
 
 -- ════════ Lists of the same length, one after another ════════
 
-shifted : (i j : ℕ) → suc i + j ≡ i + suc j
-shifted i j = omega arith
-
 module _ {B : Type 0} (f : ℕ → List B) (n : ℕ) (as-long : (t : ℕ) → length (f t) ≡ n) where
-  length-each : (i m : ℕ) → length (each (numbers i m) f) ≡ n * m
-  length-each i zero = sym (mul-zero n)
-  length-each i (suc m) = simp length-append (omega (arith, as-long i, length-each (suc i) m, mul-suc n m))
-
   drop-each : (i m t : ℕ) → drop (n * suc t) (each (numbers i (suc m)) f) ≡ drop (n * t) (each (numbers (suc i) m) f)
   drop-each i m t =
       let place : n * suc t ≡ n + n * t = omega (arith, mul-suc n t) in
@@ -131,7 +126,7 @@ module _ (p : Problem) (r : Reading) where
   unfolding bytes-of-reading
   bytes-length =
       simp length-append
-      (omega (arith, length-latch-bytes, length-each (input-bytes p r) (p .inputs) length-input-bytes 0 (p .bound + 1)))
+      (omega (arith, length-latch-bytes, length-each (input-bytes p r) (p .inputs) length-input-bytes 0 (p .bound + 1), mul-comm (p .bound + 1) (p .inputs)))
 
   pub bytes-start : byte (bytes-of-reading p r) 0 ≤ p .bound + 1
   unfolding bytes-of-reading

@@ -18,7 +18,7 @@ use Rattle.meaning.specs.Bounded.{Shape, prefix, lasso, onward, visits, until-o
 use Rattle.pairing.specs.NodeLaws.{NodeLaws, left-value, at-next, op-value, Q-value, E-value}
 use Rattle.pairing.proofs.Trees.{tree, tree-unfolds}
 use Rattle.pairing.proofs.NextValues.{at-next-inside, at-next-last, at-next-same, same-going-down, until-to-last, release-to-last}
-use Rattle.pairing.proofs.Unrolled.{after-last, after-inside, until-unrolled, until-round, release-unrolled, release-round}
+use Rattle.pairing.proofs.Unrolled.{after-last, after-inside, until-unrolled, until-once-round, release-unrolled, release-once-round}
 
 -- The loop starts at 0 to k.
 abbrev pub StartWithin : Shape → Problem → Type 0
@@ -63,7 +63,7 @@ module _ (p : Problem) where
       ∙ until-to-last (p .bound) f g round i h
       ∙ ap (λ y. g i || (f i && y))
       (at-next-same (p .bound) _ (λ j. until-over f g false (onward l (p .bound) (suc (p .bound)) j)) round _
-      (λ j h′. sym (until-unrolled f g l (p .bound) w j h′)) (sym (until-round f g l (p .bound) w)) i)
+      (λ j h′. sym (until-unrolled f g l (p .bound) w j h′)) (sym (until-once-round f g l (p .bound) w)) i)
 
   release-law : (s : Shape) → StartWithin s p → (f g : ℕ → Bool) (i : ℕ) → i ≤ p .bound
       → let r : ℕ → Bool = λ j. release-over f g (release-end s) (visits s (p .bound) j) in
@@ -75,7 +75,7 @@ module _ (p : Problem) where
       ∙ release-to-last (p .bound) f g round i h
       ∙ ap (λ y. g i && (f i || y))
       (at-next-same (p .bound) _ (λ j. release-over f g true (onward l (p .bound) (suc (p .bound)) j)) round _
-      (λ j h′. sym (release-unrolled f g l (p .bound) w j h′)) (sym (release-round f g l (p .bound) w)) i)
+      (λ j h′. sym (release-unrolled f g l (p .bound) w j h′)) (sym (release-once-round f g l (p .bound) w)) i)
 
 -- ════════ The tables ════════
 
@@ -138,11 +138,11 @@ module _ (p : Problem) (rows : ℕ → List Bool) (zero-false : ZeroFalse rows) 
   start-law l w (until a b) n e =
       ap (λ t. bounded-value (lasso l) (p .bound) rows t l) e
       ∙ ap (λ f. until-over f (P-of p (lasso l) rows b) false (onward l (p .bound) (suc (p .bound)) l)) (fun-ext (left-is (lasso l) a))
-      ∙ until-round (left-value (P-of p (lasso l) rows) a) (P-of p (lasso l) rows b) l (p .bound) w
+      ∙ until-once-round (left-value (P-of p (lasso l) rows) a) (P-of p (lasso l) rows b) l (p .bound) w
   start-law l w (release a b) n e =
       ap (λ t. bounded-value (lasso l) (p .bound) rows t l) e
       ∙ ap (λ f. release-over f (P-of p (lasso l) rows b) true (onward l (p .bound) (suc (p .bound)) l)) (fun-ext (left-is (lasso l) a))
-      ∙ release-round (left-value (P-of p (lasso l) rows) a) (P-of p (lasso l) rows b) l (p .bound) w
+      ∙ release-once-round (left-value (P-of p (lasso l) rows) a) (P-of p (lasso l) rows b) l (p .bound) w
 
   end-law : (s : Shape) → StartWithin s p → (x : Node) (n : ℕ) → tree p n ≡ tree-of (trees-after [] (p .nodes)) x
       → E-of p s rows n ≡ E-value s (Q-over p s rows x n)

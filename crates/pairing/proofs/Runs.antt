@@ -11,22 +11,9 @@ use Rattle.clauses.proofs.Satisfaction.{all-of-at, all-of-if-at}
 use Rattle.meaning.specs.Problem.{Problem}
 use Rattle.meaning.specs.Runs.{Position, next-values, run-from}
 use Rattle.meaning.specs.Witnesses.{witness-length, first-latches, inputs-at, run, position}
+use Rattle.meaning.proofs.Numbers.{length-numbers, getD-numbers, getD-map-numbers-from}
 
 -- ════════ Numbers in a row ════════
-
-pub length-numbers : (i n : ℕ) → length (numbers i n) ≡ n
-length-numbers i zero = refl
-length-numbers i (suc n) = ap suc (length-numbers (suc i) n)
-
-pub getD-numbers : (i n j d : ℕ) → j < n → getD (numbers i n) j d ≡ i + j
-getD-numbers i zero j d h = absurd (not-suc-le-zero h)
-getD-numbers i (suc n) zero d h = rw add-zero
-getD-numbers i (suc n) (suc j) d h = getD-numbers (suc i) n j d (le-of-suc-le-suc h) ∙ omega arith
-
-getD-mapped : {A : Type 0} (f : ℕ → A) (i n j : ℕ) (d : A) → j < n → getD (map f (numbers i n)) j d ≡ f (i + j)
-getD-mapped f i zero j d h = absurd (not-suc-le-zero h)
-getD-mapped f i (suc n) zero d h = rw add-zero
-getD-mapped f i (suc n) (suc j) d h = getD-mapped f (suc i) n j d (le-of-suc-le-suc h) ∙ ap f (omega arith)
 
 module _ (f : ℕ → Bool) (n : ℕ) where
   pub all-of-numbers : all-of f (numbers 0 n) ≡ true → (j : ℕ) → j < n → f j ≡ true
@@ -73,7 +60,7 @@ module _ (p : Problem) (bs : List ℕ) where
   unfolding run
   position-inputs t h =
       run-inputs p (first-latches p bs) rows-of-inputs t _ (omega (arith, how-many))
-      ∙ getD-mapped (inputs-at p bs) 0 (p .bound + 1) t [] (omega arith) ∙ ap (inputs-at p bs) (zero-add t)
+      ∙ getD-map-numbers-from (inputs-at p bs) 0 (p .bound + 1) t [] (omega arith) ∙ ap (inputs-at p bs) (zero-add t)
 
   pub position-next : (t : ℕ) → t < p .bound → position p bs (suc t) .latches ≡ next-values p (position p bs t)
   unfolding run

@@ -11,6 +11,7 @@ use lib.Dec.{eqb}
 use Rattle.clauses.specs.Lists.{numbers}
 use Rattle.clauses.proofs.Satisfaction.{one-true, second-true, eq-if-eqb, eqb-self, false-if-not-true}
 use Rattle.meaning.specs.Bounded.{after, onward, until-over, release-over}
+use Rattle.pairing.proofs.Loops.{release-dual}
 
 -- ════════ Positions already passed add nothing ════════
 
@@ -179,31 +180,25 @@ module _ (f g : ℕ → Bool) (l k : ℕ) (s : l ≤ k) where
       go (no h′) = past-round i (omega arith)
 
   -- From the loop's start on, once round.
-  pub until-round : until-over f g false (onward l k (suc k) l) ≡ until-over f g false (numbers l (suc k - l))
-  until-round = until-unrolled l s ∙ until-passed f g (to-last k l) (to-last k l) (λ j m. m)
+  pub until-once-round : until-over f g false (onward l k (suc k) l) ≡ until-over f g false (numbers l (suc k - l))
+  until-once-round = until-unrolled l s ∙ until-passed f g (to-last k l) (to-last k l) (λ j m. m)
 
 -- ════════ Release, its dual ════════
 
 abbrev pub negation : (ℕ → Bool) → ℕ → Bool
 negation f i = not (f i)
 
-dual-now : (x y rest : Bool) → x && (y || not rest) ≡ not (not x || (not y && rest))
-dual-now true true rest = refl
-dual-now true false rest = refl
-dual-now false y rest = refl
-
-pub release-dual : (f g : ℕ → Bool) (end : Bool) (is : List ℕ)
-    → release-over f g end is ≡ not (until-over (negation f) (negation g) (not end) is)
-release-dual f g end [] = sym (Bool·not-not end)
-release-dual f g end (i ∷ is) = rw (release-dual f g end is, dual-now)
-
 module _ (f g : ℕ → Bool) (l k : ℕ) (s : l ≤ k) where
   pub release-unrolled : (i : ℕ) → i ≤ k
       → release-over f g true (onward l k (suc k) i) ≡ release-over f g (release-over f g true (numbers l (suc k - l))) (numbers i (suc k - i))
   release-unrolled i h =
-      release-dual f g true (onward l k (suc k) i) ∙ ap not (until-unrolled (negation f) (negation g) l k s i h)
-      ∙ rw (release-dual f g true (to-last k l), release-dual f g _ (to-last k i), Bool·not-not)
+      release-dual f g false (onward l k (suc k) i)
+      ∙ ap not (until-unrolled (negation f) (negation g) l k s i h)
+      ∙ sym (release-dual f g (until-over (negation f) (negation g) false (to-last k l)) (to-last k i))
+      ∙ ap (λ e. release-over f g e (to-last k i)) (sym (release-dual f g false (to-last k l)))
 
-  pub release-round : release-over f g true (onward l k (suc k) l) ≡ release-over f g true (numbers l (suc k - l))
-  release-round =
-      release-dual f g true (onward l k (suc k) l) ∙ ap not (until-round (negation f) (negation g) l k s) ∙ sym (release-dual f g true (to-last k l))
+  pub release-once-round : release-over f g true (onward l k (suc k) l) ≡ release-over f g true (numbers l (suc k - l))
+  release-once-round =
+      release-dual f g false (onward l k (suc k) l)
+      ∙ ap not (until-once-round (negation f) (negation g) l k s)
+      ∙ sym (release-dual f g false (to-last k l))
