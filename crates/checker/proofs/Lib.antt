@@ -1,0 +1,9 @@
+-- The plain mathematics of the crate's proofs.
+pub mod Signs
+pub mod Buffers
+pub mod JobBytes
+pub mod Decimals
+pub mod Printing
+pub mod FlatText
+pub mod Sizes
+pub mod Unique

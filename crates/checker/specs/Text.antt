@@ -1,0 +1,37 @@
+-- The text of a CNF given as flat words, and a text in a lent buffer. Assumes nothing.
+use mathlib.Core.Path.{_≡_}
+use mathlib.Core.Bool.{cond}
+use mathlib.Core.List.{List, _++_}
+use Prim.Native.Nat.{ℕ, _+_}
+use lib.IntN.{ℤ}
+use lib.ListN.{length, take, drop}
+use Rattle.clauses.specs.Lists.{each, written}
+use Rattle.clauses.specs.CnfWords.{is-0}
+use Rattle.meaning.specs.JobFile.{bytes-of, decimal, signed-decimal, header-line}
+
+-- ════════ The text ════════
+
+-- The word 0 ends its line; after another word comes a space.
+abbrev pub word-text : ℤ → List ℕ
+word-text w = cond (is-0 w) (bytes-of "0\n") (signed-decimal w ++ bytes-of " ")
+
+abbrev pub words-text : List ℤ → List ℕ
+words-text ws = each ws word-text
+
+unfoldable pub flat-text : ℕ → ℕ → List ℤ → List ℕ
+flat-text v c ws = header-line v c ++ words-text ws
+
+-- A line of two numbers, as the header's and a refusal's.
+abbrev pub line-of : List ℕ → ℕ → List ℕ → ℕ → List ℕ
+line-of opening first between second = opening ++ decimal first ++ between ++ decimal second ++ bytes-of "\n"
+
+-- ════════ In a buffer ════════
+
+-- A text from a place on; what stands before and after it stays.
+abbrev pub placed : List ℕ → ℕ → List ℕ → List ℕ
+placed text at old = take at old ++ written text (drop at old)
+
+-- The buffer after a text was put at a place, and the place after the text.
+pub record Put (text : List ℕ) (at : ℕ) (old : List ℕ) (next : ℕ) (new : List ℕ) : Type 0 where
+  pub after : next ≡ at + length text
+  pub held : new ≡ placed text at old
