@@ -1,0 +1,13 @@
+-- What the functions' proofs share, and that the promise decides the judgement.
+pub mod Sizing
+pub mod Values
+pub mod Copies
+pub mod RowLaws
+pub mod Lending
+pub mod Laws
+pub mod NodeReading
+pub mod Passes
+pub mod Tables
+pub mod Checking
+pub mod Judging
+pub mod Unique

@@ -1,0 +1,40 @@
+-- `formula_value` meets its contract: the last node's value at position 0. Assumes nothing.
+use mathlib.Core.Bool.{false}
+use native.Mathlib.Omega.{arith}
+use lib.ListN.{length-replicate}
+use borrow.Author.Needs.{needs}
+use Rattle.meaning.specs.Limits.{nodes-limit, bound-limit}
+use Rattle.witness.specs.Tables.{positions-limit}
+use Rattle.witness.proofs.NodeReading.{nodes-are, tables-given, formula-from}
+use Rattle.witness.proofs.nodes.formula_value.Statement.{statement}
+use Rattle.witness.proofs.nodes.formula_value.Tie as tie
+
+slice-aggregate-all-values : tie.Need-slice-aggregate-all-values
+slice-aggregate-all-values c = search needs
+
+all-values-requires : tie.Need-all-values-requires
+unfolding nodes-limit positions-limit bound-limit
+all-values-requires c κs = tables-given (c .before .before .before .pre) (length-replicate _ false)
+
+slice-aggregate-value-at : tie.Need-slice-aggregate-value-at
+slice-aggregate-value-at c = search needs
+
+sub-value-at : tie.Need-sub-value-at
+sub-value-at c = omega (arith, nodes-are (c .before .before .before .before .before .before .before .pre .ready), c .before .before .before .before .before .before .before .pre .ready .proper .nodes-some)
+
+value-at-requires : tie.Need-value-at-requires
+value-at-requires c κs = search needs
+
+returns : tie.Need-returns
+returns c = formula-from (c .before .before .before .before .before .before .before .before .pre) (c .before .before .before .before .all-values .ensures) (c .value-at .ensures)
+
+pub formula-value-spec : {M : Type 1} → statement M
+formula-value-spec =
+    tie.close
+    (tie.spec
+    slice-aggregate-all-values
+    all-values-requires
+    slice-aggregate-value-at
+    sub-value-at
+    value-at-requires
+    returns)

@@ -1,0 +1,64 @@
+-- `inputs` meets its contract: the witness has a byte for each input of the position. Assumes nothing.
+use mathlib.Core.Path.{_∙_}
+use native.Mathlib.Omega.{arith}
+use lib.ListN.{length-set}
+use Rattle.meaning.specs.Limits.{inputs-limit, latches-limit, gates-limit}
+use Rattle.witness.specs.Tables.{row-width}
+use Rattle.witness.proofs.Lending.{row-room, given-narrow, bytes-room, inputs-there}
+use borrow.Author.Needs.{needs}
+use Rattle.witness.proofs.rows.inputs.Statement.{statement}
+use Rattle.witness.proofs.rows.inputs.Tie as tie
+
+mul-at : tie.Need-mul-at
+mul-at c = search needs
+
+cast-inputs : tie.Need-cast-inputs
+cast-inputs c = search needs
+
+cast-bytes : tie.Need-cast-bytes
+cast-bytes c = search needs
+
+add-bytes : tie.Need-add-bytes
+add-bytes c = search needs
+
+mul-bytes : tie.Need-mul-bytes
+mul-bytes c = omega (arith, bytes-room (c .before .before .before .before .before .pre))
+
+add-bytes-2 : tie.Need-add-bytes-2
+add-bytes-2 c = omega (arith, bytes-room (c .before .before .before .before .before .pre))
+
+slice-write-table : tie.Need-slice-write-table
+unfolding inputs-limit latches-limit gates-limit row-width
+slice-write-table c = omega (arith, row-room (c .before .before .before .before .before .pre))
+
+add-copy-bits : tie.Need-add-copy-bits
+add-copy-bits c = search needs
+
+copy-bits-requires : tie.Need-copy-bits-requires
+unfolding inputs-limit latches-limit gates-limit row-width
+copy-bits-requires c κs =
+    let start = c .before .before .before .before .before .before in
+    (simp length-set (omega (arith, row-room (start .pre), given-narrow (start .pre))), bytes-room (start .pre))
+
+same-length : tie.Need-same-length
+same-length c = c .before .before .copy-bits .kept .0 ∙ simp length-set
+
+returns : tie.Need-returns
+unfolding inputs-limit latches-limit gates-limit row-width
+returns c = inputs-there (c .before .before .before .before .before .before .before .before .before .pre) _ (c .before .before .copy-bits .ensures)
+
+pub inputs-spec : {M : Type 1} → statement M
+inputs-spec =
+    tie.close
+    (tie.spec
+    mul-at
+    cast-inputs
+    cast-bytes
+    add-bytes
+    mul-bytes
+    add-bytes-2
+    slice-write-table
+    add-copy-bits
+    copy-bits-requires
+    same-length
+    returns)

@@ -1,0 +1,3 @@
+-- What the judge of a witness promises, and what its tables hold.
+pub mod Tables
+pub mod Promise

@@ -1,0 +1,152 @@
+// The values of the variables at each position of a run, in one table of rows.
+use problem::Sizes;
+use problem::read::gate_left;
+use problem::read::gate_right;
+use problem::read::latch_next;
+ghost use mathlib.Core.Path.{_≡_};
+ghost use mathlib.Core.Bool.{false};
+ghost use mathlib.Core.List.{_∷_, _++_};
+ghost use Prim.Native.Nat.{_+_, _*_, _<_, _≤_};
+ghost use lib.ListN.{length, take, drop};
+ghost use Rattle.meaning.specs.Problem.{W, latch, gate, problem};
+ghost use Rattle.meaning.specs.Runs.{literal-value, gate-value, with-gates};
+ghost use Rattle.meaning.specs.Witnesses.{bits, witness-length, inputs-at, position};
+ghost use Rattle.witness.specs.Tables.{Ready, Lent, RowsRight, row-width, rows-room, row-in, given-width, latches-from, next-in};
+
+// A row has a value for each of the variables 0..W, whatever W is, and a table a row for each position.
+pub(crate) const ROW_WIDTH: usize = 1153;
+
+pub(crate) const POSITIONS: usize = 32;
+
+pub(crate) const ROWS: usize = POSITIONS * ROW_WIDTH;
+
+// Variable 0 comes before the inputs, and one byte before the latches' bytes.
+pub(crate) const INPUTS_AT: usize = 1;
+
+pub(crate) const LATCHES_AT: usize = 1;
+
+// "bytes are 0 or 1"
+pub(crate) const TRUE: u8 = 1;
+
+// The value of a literal in a row: narrow and final, since gates take most of the time a witness takes.
+pub(crate) fn literal(row: &[bool], x: u32) -> bool
+    ensures { λ r. ⌜ r ≡ literal-value (now (row .entry)) x ⌝ }
+{
+    let v = (x / 2) as usize;
+    if row.len() <= v {
+        return x % 2 == 1;
+    }
+    if x % 2 == 1 { !row[v] } else { row[v] }
+}
+
+// "A gate is the AND of two literals"
+fn gate(words: &[u32], s: Sizes, row: &[bool], j: u32) -> bool
+    requires { ⌜ Ready (now words) s × (j < s .gates) ⌝ }
+    ensures { λ r. ⌜ r ≡ gate-value (now (row .entry)) (gate (problem (now (words .entry))) j) ⌝ }
+{
+    literal(row, gate_left(words, s, j)) && literal(row, gate_right(words, s, j))
+}
+
+// The gates of a row, each over the variables before it.
+fn gates(words: &[u32], s: Sizes, row: &mut [bool])
+    requires { ⌜ Ready (now words) s × (length (now row) ≡ row-width) ⌝ }
+    ensures { λ r. ⌜ take (W (problem (now (words .entry))) + 1) (now (row .exit)) ≡ with-gates (problem (now (words .entry)) .gates) (take (given-width (problem (now (words .entry)))) (now (row .entry))) ⌝ }
+{
+    let first = INPUTS_AT + (s.inputs + s.latches) as usize;
+    let mut j: u32 = 0;
+    while j < s.gates {
+        let at = first + (j as usize);
+        row[at] = gate(words, s, row, j);
+        j += 1;
+    }
+}
+
+// Bytes as values: a byte is true exactly if it is 1.
+fn copy_bits(table: &mut [bool], at: usize, bytes: &[u8], from: usize, count: usize)
+    requires { ⌜ (at + count ≤ length (now table)) × (from + count ≤ length (now bytes)) ⌝ }
+    ensures { λ r. ⌜ take (at + count) (now (table .exit)) ≡ take at (now (table .entry)) ++ bits (take count (drop from (now (bytes .entry)))) ⌝ }
+{
+    let mut i: usize = 0;
+    while i < count {
+        table[at + i] = bytes[from + i] == TRUE;
+        i += 1;
+    }
+}
+
+// A latch's next value, from the row of a position.
+pub(crate) fn next_value(words: &[u32], s: Sizes, table: &[bool], t: u32, i: u32) -> bool
+    requires { ⌜ Ready (now words) s × (i < s .latches) × ((t + 1) * row-width ≤ length (now table)) ⌝ }
+    ensures { λ r. ⌜ r ≡ literal-value (row-in (now (table .entry)) t) (latch (problem (now (words .entry))) i .next) ⌝ }
+{
+    let from = (t as usize) * ROW_WIDTH;
+    let to = from + ROW_WIDTH;
+    literal(&table[from..to], latch_next(words, i))
+}
+
+// The latches of the position after t, from the row of t.
+fn next_latches(words: &[u32], s: Sizes, t: u32, table: &mut [bool])
+    requires { ⌜ Ready (now words) s × ((t + 2) * row-width ≤ length (now table)) ⌝ }
+    ensures { λ r. ⌜ take (latches-from (problem (now (words .entry))) (t + 1) + s .latches) (now (table .exit)) ≡ take (latches-from (problem (now (words .entry))) (t + 1)) (now (table .entry)) ++ next-in (problem (now (words .entry))) (row-in (now (table .entry)) t) ⌝ }
+{
+    let from = (t as usize + 1) * ROW_WIDTH + INPUTS_AT + (s.inputs as usize);
+    let mut i: u32 = 0;
+    while i < s.latches {
+        let at = from + (i as usize);
+        table[at] = next_value(words, s, table, t, i);
+        i += 1;
+    }
+}
+
+// Variable 0 and the inputs of a position.
+fn inputs(words: &[u32], s: Sizes, witness: &[u8], t: u32, table: &mut [bool])
+    requires { ⌜ Lent (now words) s (now witness) t (now table) ⌝ }
+    ensures { λ r. ⌜ take (latches-from (problem (now (words .entry))) t) (now (table .exit)) ≡ take (t * row-width) (now (table .entry)) ++ false ∷ inputs-at (problem (now (words .entry))) (now (witness .entry)) t ⌝ }
+{
+    let at = (t as usize) * ROW_WIDTH;
+    let inputs = s.inputs as usize;
+    let bytes = LATCHES_AT + (s.latches as usize) + inputs * (t as usize);
+    table[at] = false;
+    copy_bits(table, at + INPUTS_AT, witness, bytes, inputs);
+}
+
+// The latches of a position: those of the witness, or the next values of the position before.
+fn latches(words: &[u32], s: Sizes, witness: &[u8], t: u32, table: &mut [bool])
+    requires { ⌜ Lent (now words) s (now witness) t (now table) ⌝ }
+    ensures { λ r. ⌜ take (latches-from (problem (now (words .entry))) t + s .latches) (now (table .exit)) ≡ take (latches-from (problem (now (words .entry))) t) (now (table .entry)) ++ position (problem (now (words .entry))) (now (witness .entry)) t .latches ⌝ }
+{
+    if t == 0 {
+        copy_bits(
+            table,
+            INPUTS_AT + (s.inputs as usize),
+            witness,
+            LATCHES_AT,
+            s.latches as usize,
+        );
+    } else {
+        next_latches(words, s, t - 1, table);
+    }
+}
+
+// The row of a position, after those before it.
+fn row(words: &[u32], s: Sizes, witness: &[u8], t: u32, table: &mut [bool])
+    requires { ⌜ Lent (now words) s (now witness) t (now table) ⌝ }
+    ensures { λ r. ⌜ RowsRight (problem (now (words .entry))) (now (witness .entry)) (t + 1) (now (table .exit)) ⌝ }
+{
+    inputs(words, s, witness, t, table);
+    latches(words, s, witness, t, table);
+    let from = (t as usize) * ROW_WIDTH;
+    let to = from + ROW_WIDTH;
+    gates(words, s, &mut table[from..to]);
+}
+
+// The run that a witness shows.
+pub(crate) fn run(words: &[u32], s: Sizes, witness: &[u8], table: &mut [bool])
+    requires { ⌜ Ready (now words) s × (length (now witness) ≡ witness-length (problem (now words))) × (length (now table) ≡ rows-room) ⌝ }
+    ensures { λ r. ⌜ RowsRight (problem (now (words .entry))) (now (witness .entry)) (s .bound + 1) (now (table .exit)) ⌝ }
+{
+    let mut t: u32 = 0;
+    while t <= s.bound {
+        row(words, s, witness, t, table);
+        t += 1;
+    }
+}
