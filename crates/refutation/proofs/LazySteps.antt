@@ -1,0 +1,186 @@
+-- Judges that follow a wrong rule for a step do not meet the promise. Each is right but for its rule. Assumes nothing.
+use mathlib.Core.Path.{_≡_, refl}
+use mathlib.Core.Bool.{Bool, true, false, not, cond, _&&_, _||_}
+use mathlib.Core.List.{List, [], _∷_, _++_, map}
+use Prim.Native.Nat.{ℕ, suc, _+_}
+use native.Mathlib.Omega.{arith}
+use lib.IntN.{ℤ, pos, negsuc}
+use lib.Dec.{eqb}
+use lib.ListN.{length}
+use Rattle.clauses.specs.Lists.{all-of, empty}
+use Rattle.clauses.specs.Answers.{check, first-failing, granted, not-closed}
+use Rattle.clauses.specs.Clauses.{Clause, negated, same}
+use Rattle.clauses.specs.CnfWords.{clauses-of}
+use Rattle.clauses.specs.Refutations.{Step, steps-of, both-signs, clause-numbered, not-false, Outcome, conflict, unit, neither, outcome, hints-conflict, step-accepted, step-checks, clauses-after, last-is-empty-after, judge-steps}
+use Rattle.refutation.specs.Promise.{answer-of}
+use Rattle.refutation.specs.declared.Judgement.{Judgement}
+use Rattle.refutation.specs.declared.Judgement.the-variants.{Yes, StepRefused, NotClosed}
+use Rattle.refutation.proofs.Lazy.{Input, Wrong, laid-down, wrong-number, over-T}
+
+-- ════════ Judging by a rule ════════
+
+-- A rule says whether a step passes: from the clauses so far, the step's number, the step, and the steps after it.
+abbrev pub Rule : Type 0
+Rule = List Clause → ℕ → Step → List Step → Bool
+
+-- The steps from number i on; `closed` says whether the clause before them is empty.
+abbrev pub steps-by : Rule → List Clause → ℕ → Bool → List Step → Judgement
+steps-by rule cs i closed [] = cond closed Yes (NotClosed i)
+steps-by rule cs i closed (s ∷ ss) =
+    cond (rule cs i s ss) (steps-by rule (clauses-after cs s) (suc i) (empty (s .clause)) ss) (StepRefused i)
+
+-- What a judge by this rule answers, where the words and the work areas are right.
+abbrev pub answer-by : Rule → Input → Judgement
+answer-by rule x = steps-by rule (clauses-of (x .cnf)) 0 false (steps-of (x .refutation))
+
+abbrev pub the-rule : Rule
+the-rule cs i s ss = step-accepted cs s
+
+answer-cond : (b : Bool) (p q : Judgement) → answer-of (cond b p q) ≡ cond b (answer-of p) (answer-of q)
+answer-cond true p q = refl
+answer-cond false p q = refl
+
+-- The checks of steps from number i on, with the closing check after them.
+steps-by-rule : (cs : List Clause) (i total : ℕ) (closed : Bool) (s : Step) (ss : List Step) → total ≡ suc i + length ss
+    → answer-of (steps-by the-rule cs i closed (s ∷ ss))
+    ≡ first-failing (step-checks cs i (s ∷ ss) ++ (check (last-is-empty-after s ss) (not-closed total) ∷ [])) (granted 0)
+steps-by-rule cs i total closed s [] e =
+    let t : total ≡ suc i = omega arith in
+    rw (t, answer-cond (step-accepted cs s), answer-cond (empty (s .clause)))
+steps-by-rule cs i total closed s (t ∷ ts) e =
+    rw (answer-cond (step-accepted cs s), steps-by-rule (clauses-after cs s) (suc i) total (empty (s .clause)) t ts (omega arith))
+
+-- By the rule of document 01 the answer is the one laid down, so a wrong rule is all that is wrong below.
+pub the-rule-right : (cs : List Clause) (ss : List Step) → answer-of (steps-by the-rule cs 0 false ss) ≡ judge-steps cs ss
+unfolding judge-steps
+the-rule-right cs [] = refl
+the-rule-right cs (s ∷ ss) = steps-by-rule cs 0 (length (s ∷ ss)) false s ss (omega arith)
+
+-- ════════ Only some steps are judged ════════
+
+abbrev pub first-step-only : Rule
+first-step-only cs i s ss = not (eqb i 0) || step-accepted cs s
+
+-- T's step 0 2 12 5 0, then 0 0: the empty clause again, with no hint. 13 at 1 is right, and this judge says yes.
+abbrev pub second-refused : Input
+second-refused = over-T (pos 0 ∷ pos 2 ∷ pos 12 ∷ pos 5 ∷ pos 0 ∷ pos 0 ∷ pos 0 ∷ []) 7 14
+
+pub first-step-only-breaks : Wrong second-refused (answer-by first-step-only second-refused)
+unfolding laid-down
+first-step-only-breaks = wrong-number second-refused Yes (λ e. omega arith)
+
+-- 4 0 12 0, then 5 0 0: the clause [4] from clause 12, then [5] with no hint. 13 at 1 is right, and this judge says 14 at 2.
+abbrev pub second-refused-open : Input
+second-refused-open = over-T (pos 4 ∷ pos 0 ∷ pos 12 ∷ pos 0 ∷ pos 5 ∷ pos 0 ∷ pos 0 ∷ []) 7 14
+
+pub first-step-only-open-breaks : Wrong second-refused-open (answer-by first-step-only second-refused-open)
+unfolding laid-down
+first-step-only-open-breaks = wrong-number second-refused-open (NotClosed 2) (λ e. omega arith)
+
+-- Nor does the same judge if it takes the first step for the last, and says 14 at any count.
+pub not-closed-for-refused-breaks : (n : ℕ) → Wrong second-refused-open (NotClosed n)
+unfolding laid-down
+not-closed-for-refused-breaks n = wrong-number second-refused-open (NotClosed n) (λ e. omega arith)
+
+abbrev pub last-step-only : Rule
+last-step-only cs i s ss = not (empty ss) || step-accepted cs s
+
+-- 0 12 5 0, which is refused, then 0 2 12 5 0, which passes. 13 at 0 is right, and this judge says yes.
+abbrev pub first-refused : Input
+first-refused = over-T (pos 0 ∷ pos 12 ∷ pos 5 ∷ pos 0 ∷ pos 0 ∷ pos 2 ∷ pos 12 ∷ pos 5 ∷ pos 0 ∷ []) 7 14
+
+pub last-step-only-breaks : Wrong first-refused (answer-by last-step-only first-refused)
+unfolding laid-down
+last-step-only-breaks = wrong-number first-refused Yes (λ e. omega arith)
+
+-- 0 0, then 0 13 0: the empty clause with no hint, then the same from it. 13 at 0 is right, and this judge says yes.
+abbrev pub leans-on-refused : Input
+leans-on-refused = over-T (pos 0 ∷ pos 0 ∷ pos 0 ∷ pos 13 ∷ pos 0 ∷ []) 7 14
+
+pub leaning-on-refused-breaks : Wrong leans-on-refused (answer-by last-step-only leans-on-refused)
+unfolding laid-down
+leaning-on-refused-breaks = wrong-number leans-on-refused Yes (λ e. omega arith)
+
+-- ════════ A wrong rule for the hints ════════
+
+-- Hints taken in order: what a clause gives, what a conflict with these hints after it says, and what no conflict says.
+abbrev pub hints-by : (List ℤ → Clause → Outcome) → (List ℕ → Bool) → Bool → List Clause → List ℤ → List ℕ → Bool
+hints-by gives at-conflict at-end cs trues [] = at-end
+hints-by gives at-conflict at-end cs trues (h ∷ hs) =
+    elim (gives trues (clause-numbered cs h)) [
+      | conflict ↦ at-conflict hs
+      | unit u ↦ hints-by gives at-conflict at-end cs (u ∷ trues) hs
+      | neither ↦ false
+    ]
+
+-- A conflict passes the step wherever it stands.
+abbrev pub any-conflict : Rule
+any-conflict cs i s ss = not (both-signs (s .clause)) && hints-by outcome (λ hs. true) false cs (map negated (s .clause)) (s .hints)
+
+-- 0 2 12 5 2 0: the conflict is hint 5, and hint 2 comes after it. 13 at 0 is right, and this judge says yes.
+abbrev pub early-conflict : Input
+early-conflict = over-T (pos 0 ∷ pos 2 ∷ pos 12 ∷ pos 5 ∷ pos 2 ∷ pos 0 ∷ []) 7 13
+
+pub early-conflict-breaks : Wrong early-conflict (answer-by any-conflict early-conflict)
+unfolding laid-down
+early-conflict-breaks = wrong-number early-conflict Yes (λ e. omega arith)
+
+-- The literals that are not false are one literal: a unit, even where that literal is true.
+abbrev pub unit-or-true : List ℤ → Outcome
+unit-or-true [] = conflict
+unit-or-true (u ∷ us) = cond (all-of (same u) us) (unit u) neither
+
+abbrev pub true-is-unit : Rule
+true-is-unit cs i s ss =
+    not (both-signs (s .clause)) && hints-by (λ trues c. unit-or-true (not-false trues c)) empty false cs (map negated (s .clause)) (s .hints)
+
+-- 0 2 2 12 5 0: clause 2 is true when its hint comes again. 13 at 0 is right, and this judge says yes.
+abbrev pub hint-again : Input
+hint-again = over-T (pos 0 ∷ pos 2 ∷ pos 2 ∷ pos 12 ∷ pos 5 ∷ pos 0 ∷ []) 7 13
+
+pub true-hint-breaks : Wrong hint-again (answer-by true-is-unit hint-again)
+unfolding laid-down
+true-hint-breaks = wrong-number hint-again Yes (λ e. omega arith)
+
+-- Units are enough, without a conflict.
+abbrev pub no-conflict-needed : Rule
+no-conflict-needed cs i s ss = not (both-signs (s .clause)) && hints-by outcome empty true cs (map negated (s .clause)) (s .hints)
+
+-- 0 2 12 0: two units and no conflict. 13 at 0 is right, and this judge says yes.
+abbrev pub no-conflict : Input
+no-conflict = over-T (pos 0 ∷ pos 2 ∷ pos 12 ∷ pos 0 ∷ []) 7 13
+
+pub no-conflict-breaks : Wrong no-conflict (answer-by no-conflict-needed no-conflict)
+unfolding laid-down
+no-conflict-breaks = wrong-number no-conflict Yes (λ e. omega arith)
+
+-- A clause that gives nothing is passed over: only the word 0, which is no literal, becomes true.
+abbrev pub skipped : Outcome → Outcome
+skipped conflict = conflict
+skipped (unit u) = unit u
+skipped neither = unit (pos 0)
+
+abbrev pub skips-hints : Rule
+skips-hints cs i s ss =
+    not (both-signs (s .clause)) && hints-by (λ trues c. skipped (outcome trues c)) empty false cs (map negated (s .clause)) (s .hints)
+
+-- 0 3 2 12 5 0: clause 3, `-3 -2 -2 0`, gives nothing. 13 at 0 is right, and this judge says yes.
+abbrev pub idle-hint : Input
+idle-hint = over-T (pos 0 ∷ pos 3 ∷ pos 2 ∷ pos 12 ∷ pos 5 ∷ pos 0 ∷ []) 7 13
+
+pub skipped-hint-breaks : Wrong idle-hint (answer-by skips-hints idle-hint)
+unfolding laid-down
+skipped-hint-breaks = wrong-number idle-hint Yes (λ e. omega arith)
+
+-- ════════ Both signs ════════
+
+abbrev pub both-signs-pass : Rule
+both-signs-pass cs i s ss = hints-conflict cs (map negated (s .clause)) (s .hints)
+
+-- 1 -1 0 1 0, then T's step 0 2 12 5 0: the first step's clause is [1, -1]. 13 at 0 is right, and this judge says yes.
+abbrev pub both-signs-step : Input
+both-signs-step = over-T (pos 1 ∷ negsuc 0 ∷ pos 0 ∷ pos 1 ∷ pos 0 ∷ pos 0 ∷ pos 2 ∷ pos 12 ∷ pos 5 ∷ pos 0 ∷ []) 7 14
+
+pub both-signs-breaks : Wrong both-signs-step (answer-by both-signs-pass both-signs-step)
+unfolding laid-down
+both-signs-breaks = wrong-number both-signs-step Yes (λ e. omega arith)

@@ -1,0 +1,22 @@
+-- The plain mathematics of the crate's proofs.
+pub mod Signs
+pub mod Hints
+pub mod Scan
+pub mod ClauseCount
+pub mod StepCount
+pub mod ClausePlaces
+pub mod Marks
+pub mod Finding
+pub mod Known
+pub mod HintsTaken
+pub mod StepWords
+pub mod Judging
+pub mod RightWords
+pub mod Cleared
+pub mod Judgements
+pub mod Unique
+pub mod Refuted
+pub mod Lazy
+pub mod LazySteps
+pub mod LazyAreas
+pub mod OneAnswer

@@ -1,0 +1,142 @@
+-- `refutation::judge::judge` meets its contract. Assumes nothing.
+use mathlib.Core.Path.{_≡_, sym, _∙_, ap}
+use Prim.Native.Nat.{ℕ, _+_, _<_}
+use native.Mathlib.Omega.{arith}
+use borrow.Author.Needs.{needs}
+use lib.ListN.{length}
+use Rattle.clauses.specs.Answers.{bad-cnf, bad-refutation}
+use Rattle.clauses.specs.CnfWords.{clauses-of}
+use Rattle.clauses.specs.Refutations.{steps-of}
+use Rattle.refutation.specs.Promise.{counted-answer}
+use Rattle.refutation.specs.Work.{CnfRight, StepsRight}
+use Rattle.refutation.proofs.RightWords.{cnf-counted, steps-counted, clauses-fewer, steps-fewer}
+use Rattle.refutation.proofs.Judgements.{refused-16, refused-11, few-numbers, few-clauses, all-judged}
+use Rattle.refutation.proofs.judge.judge.Statement.{statement}
+use Rattle.refutation.proofs.judge.judge.Tie as tie
+
+count-clauses-requires : tie.Need-count-clauses-requires
+count-clauses-requires c κs = search needs
+
+enum-known-n : tie.Need-enum-known-n
+enum-known-n c = search needs
+
+enum-known-i : tie.Need-enum-known-i
+enum-known-i c = search needs
+
+returns : tie.Need-returns
+returns c =
+    refused-16 _ _ _ _ _ (ap (counted-answer bad-cnf) (sym (c .before .i .given .1)) ∙ c .before .before .before .count-clauses .ensures)
+
+count-steps-requires : tie.Need-count-steps-requires
+count-steps-requires c κs = search needs
+
+enum-known-n-2 : tie.Need-enum-known-n-2
+enum-known-n-2 c = search needs
+
+enum-known-i-2 : tie.Need-enum-known-i-2
+enum-known-i-2 c = search needs
+
+-- The entry, by where the clauses are counted.
+abbrev start : tie.After-known-told → tie.Start
+start c = c .before .before .before .before .before .before
+
+clauses-counted : (c : tie.After-known-told)
+    → CnfRight (start c .args .variables) (start c .args .cnf .now) × (c .before .n .given .0 .0 ≡ length (clauses-of (start c .args .cnf .now)))
+clauses-counted c =
+    cnf-counted (start c .args .variables) (start c .args .cnf .now)
+    (ap (counted-answer bad-cnf) (sym (c .before .n .given .1)) ∙ c .before .before .before .count-clauses .ensures)
+
+returns-2 : tie.Need-returns-2
+returns-2 c =
+    let call = c .before .before .before in
+    let n = clauses-counted (call .before) in
+    refused-11 _ _ _ _ _ (n .0) (n .1) (ap (counted-answer bad-refutation) (sym (c .before .i2 .given .1)) ∙ call .count-steps .ensures)
+
+-- Where both are counted.
+abbrev counting : tie.After-known-told3 → tie.After-known-told
+counting c = c .before .before .before .before
+
+abbrev clauses : tie.After-known-told3 → ℕ
+clauses c = counting c .before .n .given .0 .0
+
+abbrev steps : tie.After-known-told3 → ℕ
+steps c = c .before .n2 .given .0 .0
+
+steps-right : (c : tie.After-known-told3)
+    → StepsRight (start (counting c) .args .variables) (clauses c) (start (counting c) .args .refutation .now)
+    × (steps c ≡ length (steps-of (start (counting c) .args .refutation .now)))
+steps-right c =
+    steps-counted (start (counting c) .args .variables) (clauses c) (start (counting c) .args .refutation .now)
+    (ap (counted-answer bad-refutation) (sym (c .before .n2 .given .1)) ∙ c .before .before .before .count-steps .ensures)
+
+add-t19 : tie.Need-add-t19
+add-t19 c = search needs
+
+returns-3 : tie.Need-returns-3
+returns-3 c =
+    let n = clauses-counted (counting (c .before)) in
+    let s = steps-right (c .before) in
+    few-numbers _ _ _ _ _ (n .0) (n .1) (s .0) (s .1) (omega arith)
+
+-- Each clause and each step has a word of its own.
+both-fit : (c : tie.After-known-told3) → clauses c + steps c < 18446744073709551616
+both-fit c =
+    let s = start (counting c) in
+    omega (arith, s .good, clauses-counted (counting c) .1, steps-right c .1, clauses-fewer (s .args .cnf .now), steps-fewer (s .args .refutation .now))
+
+add-if2 : tie.Need-add-if2
+add-if2 c = omega (arith, both-fit (c .before))
+
+add-t21 : tie.Need-add-t21
+add-t21 c = omega (arith, both-fit (c .before .before))
+
+returns-4 : tie.Need-returns-4
+returns-4 c =
+    let k = c .before .before in
+    let n = clauses-counted (counting k) in
+    let s = steps-right k in
+    few-clauses _ _ _ _ _ (n .0) (n .1) (s .0) (s .1) (c .before .if1 .left) (c .if2 .taken)
+
+judge-counted-requires : tie.Need-judge-counted-requires
+judge-counted-requires c κs =
+    let e = c .before .before in
+    let k = e .before .before in
+    (clauses-counted (counting k), (steps-right k, (e .before .if1 .left, e .if2 .left)))
+
+same-length : tie.Need-same-length
+same-length c = search needs
+
+same-length-2 : tie.Need-same-length-2
+same-length-2 c = search needs
+
+returns-5 : tie.Need-returns-5
+returns-5 c =
+    let call = c .before .before .before .before in
+    let e = call .before .before .before in
+    let k = e .before .before in
+    let n = clauses-counted (counting k) in
+    let s = steps-right k in
+    let o = call .judge-counted .ensures in
+    all-judged _ _ _ _ _ (n .0) (n .1) (s .0) (s .1) (e .before .if1 .left) (e .if2 .left) (call .judge-counted .result) (o .0) (o .1 .0) (o .1 .1)
+
+pub judge-spec : {M : Type 1} → statement M
+judge-spec =
+    tie.close
+    (tie.spec
+    count-clauses-requires
+    enum-known-n
+    enum-known-i
+    returns
+    count-steps-requires
+    enum-known-n-2
+    enum-known-i-2
+    returns-2
+    add-t19
+    returns-3
+    add-if2
+    add-t21
+    returns-4
+    judge-counted-requires
+    same-length
+    same-length-2
+    returns-5)

@@ -1,0 +1,225 @@
+-- `refutation::steps::accepted` meets its contract. The loop's invariant: the first `i` hints are taken.
+-- Assumes nothing.
+use mathlib.Core.Path.{_≡_, sym, _∙_, ap}
+use mathlib.Core.List.{List}
+use Prim.Native.Nat.{ℕ, suc, _+_, _-_, _<_, _≤_}
+use native.Mathlib.Omega.{arith}
+use borrow.Author.Needs.{needs, sfits-of}
+use borrow.Author.Tests.{not-true, not-false}
+use lib.IntN.{ℤ}
+use lib.ListN.{length}
+use mir.Syntax.{w32}
+use mir.Val.{SFits}
+use Rattle.clauses.specs.Clauses.{Clause, variable-of}
+use Rattle.clauses.specs.Refutations.{unit, hint-outcome}
+use Rattle.refutation.specs.Work.{stamps-limit, Marked, outcome-found, known}
+use Rattle.refutation.proofs.Signs.{word-is}
+use Rattle.refutation.proofs.Marks.{literal-at, within-at, within-at-least, within-at-most}
+use Rattle.refutation.proofs.Known.{Unset, known-fits, hint-unset}
+use Rattle.refutation.proofs.HintsTaken.{Taken, marked-on, both-signs-refused, none-taken, all-taken, at-conflict, at-neither, at-unit}
+use Rattle.refutation.proofs.steps.accepted.Statement.{statement}
+use Rattle.refutation.proofs.steps.accepted.Tie as tie
+
+abbrev Inv-loop : tie.InvT-loop
+Inv-loop limit cnf words base done clause hints values₀ places stamp i₀ values i =
+    Taken limit (suc done) (known cnf words done) clause hints values₀ values i
+
+abbrev μ-loop : tie.MeasureT-loop
+μ-loop limit cnf words base done clause hints values₀ places stamp i₀ values i = length hints - i
+
+-- Each step before has its word in the area, so a stamp fits.
+done-fits : (s : tie.Start Inv-loop μ-loop) → suc (s .args .done) < stamps-limit
+done-fits s = omega (arith, s .good, known-fits (s .pre .0))
+
+stamp-after-requires : tie.Need-stamp-after-requires Inv-loop μ-loop
+stamp-after-requires c κs = done-fits (c .before .before)
+
+stamp-fits : (c : tie.After-stamp-after Inv-loop μ-loop) → c .stamp-after .result < stamps-limit
+stamp-fits c = rw (c .stamp-after .ensures) (done-fits (c .before .before .before))
+
+set-false-requires : tie.Need-set-false-requires Inv-loop μ-loop
+set-false-requires c κs =
+    let pre = c .before .before .before .before .pre in
+    (stamp-fits (c .before), pre .1 .1 .0, rw (c .before .stamp-after .ensures) (pre .1 .0))
+
+same-length : tie.Need-same-length Inv-loop μ-loop
+same-length c = search needs
+
+-- What setting the clause false leaves.
+set-marked : (c : tie.After-set-false Inv-loop μ-loop)
+    → Marked (c .before .before .before .before .before .args .limit) (suc (c .before .before .before .before .before .args .done))
+    (c .before .before .before .before .before .args .values .now) (c .set-false .last .1 .1 .1 .0)
+set-marked c = rw (c .before .before .stamp-after .ensures) at (c .set-false .ensures .1 .0)
+
+returns : tie.Need-returns Inv-loop μ-loop
+returns c =
+    let f = c .before .before .before in
+    (both-signs-refused _ _ _ (sym (not-true (f .set-false .result) (c .if1 .taken)) ∙ f .set-false .ensures .0), set-marked f)
+
+loop-holds : tie.Need-loop-holds Inv-loop μ-loop
+loop-holds c =
+    let f = c .before .before .before in
+    let yes = not-false (f .set-false .result) (c .if1 .left) in
+    none-taken _ _ _ (sym yes ∙ f .set-false .ensures .0) (set-marked f .not-later)
+    (rw (f .before .before .stamp-after .ensures) at (f .set-false .ensures .1 .1 yes))
+
+mul-variable : tie.Need-mul-variable Inv-loop μ-loop
+mul-variable c = search needs
+
+shared-slice-copy-out-variable : tie.Need-shared-slice-copy-out-variable Inv-loop μ-loop
+shared-slice-copy-out-variable c = search needs
+
+variable-requires : tie.Need-variable-requires Inv-loop μ-loop
+variable-requires c κs = search needs
+
+add-i : tie.Need-add-i Inv-loop μ-loop
+add-i c = search needs
+
+abbrev start : tie.At-loop Inv-loop μ-loop → tie.Start Inv-loop μ-loop
+start c = c .before .before .before .before .before .before .before .before .before
+
+abbrev known-here : tie.At-loop Inv-loop μ-loop → List Clause
+known-here c = known (start c .args .cnf .now) (start c .args .words .now) (start c .args .done)
+
+abbrev hint-word : tie.At-loop Inv-loop μ-loop → ℤ
+hint-word c = literal-at (start c .args .hints .now) (c .loop .i)
+
+module _ (c : tie.After-variable Inv-loop μ-loop) where
+  abbrev l : tie.At-loop Inv-loop μ-loop
+  l = c .before .before .before
+
+  number-is : c .variable .result ≡ variable-of (hint-word l)
+  number-is = c .variable .ensures ∙ ap variable-of (word-is (hint-word l) (sfits-of (c .before .variable-arg .given)))
+
+  -- The hint names a clause that is known.
+  number-known : (1 ≤ variable-of (hint-word l)) × (variable-of (hint-word l) ≤ start l .args .base + start l .args .done)
+  number-known =
+      let n = start l .args .base + start l .args .done in
+      let w = within-at {variables = n} {clause = start l .args .hints .now} (record { inside = start l .pre .1 .1 .1; below = c .before .before .loop-test .taken }) in
+      (within-at-least n (hint-word l) w, within-at-most n (hint-word l) w)
+
+hint-requires : tie.Need-hint-requires Inv-loop μ-loop
+hint-requires c κs =
+    let l = c .before .before .before .before in
+    (rw (number-is (c .before)) (number-known (c .before)), (start l .pre .0, l .loop .inv .marked .not-later .room))
+
+-- What the hint gave.
+hint-gave : (c : tie.After-hint Inv-loop μ-loop)
+    → outcome-found (c .hint .result)
+    ≡ hint-outcome (known-here (l (c .before .before))) (l (c .before .before) .loop .inv .trues) (variable-of (hint-word (l (c .before .before))))
+hint-gave c =
+    let t = l (c .before .before) .loop .inv in
+    c .hint .ensures (t .trues) (t .values)
+    ∙ ap (λ (n : ℕ). hint-outcome (known-here (l (c .before .before))) (t .trues) n) (number-is (c .before .before))
+
+-- What is marked since the entry.
+all-marked : (c : tie.At-loop Inv-loop μ-loop) → Marked (start c .args .limit) (suc (start c .args .done)) (start c .args .values .now) (c .loop .values)
+all-marked c = marked-on (set-marked (c .before .before .before .before)) (c .loop .inv .marked)
+
+long : (c : tie.At-loop Inv-loop μ-loop) → length (c .loop .values) ≡ length (start c .args .values .now)
+long c = c .loop .inv .long ∙ c .before .before .before .before .set-false .kept .1 .1 .1 .0
+
+enum-told : tie.Need-enum-told Inv-loop μ-loop
+enum-told c = search needs
+
+same-length-2 : tie.Need-same-length-2 Inv-loop μ-loop
+same-length-2 c = long (l (c .before .before .before .before))
+
+returns-2 : tie.Need-returns-2 Inv-loop μ-loop
+returns-2 c =
+    let h = c .before .before in
+    let l = h .before .before .before .before .before in
+    (at-conflict (l .loop .inv) (h .before .before .before .before .loop-test .taken) (ap outcome-found (sym (c .enum-told .given .1)) ∙ hint-gave h), all-marked l)
+
+enum-known-w : tie.Need-enum-known-w Inv-loop μ-loop
+enum-known-w c = search needs
+
+module _ (c : tie.After-known-told Inv-loop μ-loop) where
+  abbrev h : tie.After-hint Inv-loop μ-loop
+  h = c .before .before .before
+
+  abbrev t : tie.At-loop Inv-loop μ-loop
+  t = l (h .before .before)
+
+  abbrev u : ℤ
+  u = c .before .w .given .0 .0
+
+  u-fits : SFits w32 u
+  u-fits = sfits-of (c .known-told .given .0 .1)
+
+  gave-unit : unit u ≡ hint-outcome (known-here t) (t .loop .inv .trues) (variable-of (hint-word t))
+  gave-unit = ap outcome-found (sym (c .before .w .given .1)) ∙ hint-gave h
+
+  u-unset : Unset (start t .args .limit) (t .loop .inv .trues) u
+  u-unset =
+      let k = number-known (h .before .before) in
+      hint-unset (start t .pre .0) _ (k .0) (k .1) (t .loop .inv .trues) gave-unit
+
+set-true-requires : tie.Need-set-true-requires Inv-loop μ-loop
+set-true-requires c κs =
+    let s = c .before in
+    let p = t s .before .before .before .before .before .before in
+    (stamp-fits p, rw (word-is (u s) (u-fits s)) (u-unset s .inside), rw (p .stamp-after .ensures) (t s .loop .inv .marked .not-later))
+
+loop-less : tie.Need-loop-less Inv-loop μ-loop
+loop-less c = search needs
+
+loop-again : tie.Need-loop-again Inv-loop μ-loop
+loop-again c =
+    let s = c .before .before .before .before in
+    let call = c .before .before .set-true in
+    at-unit (t s .loop .inv) (h s .before .before .before .before .loop-test .taken)
+    (t s .before .before .before .before .before .before .stamp-after .ensures)
+    (word-is (u s) (u-fits s))
+    (gave-unit s)
+    (u-unset s)
+    (call .kept .1 .1 .1 .0)
+    (call .ensures .0)
+    (call .ensures .1)
+
+enum-told-2 : tie.Need-enum-told-2 Inv-loop μ-loop
+enum-told-2 c = search needs
+
+same-length-3 : tie.Need-same-length-3 Inv-loop μ-loop
+same-length-3 c = long (l (c .before .before .before .before))
+
+returns-3 : tie.Need-returns-3 Inv-loop μ-loop
+returns-3 c =
+    let h = c .before .before in
+    let l = h .before .before .before .before .before in
+    (at-neither (l .loop .inv) (h .before .before .before .before .loop-test .taken) (ap outcome-found (sym (c .enum-told2 .given .1)) ∙ hint-gave h), all-marked l)
+
+same-length-4 : tie.Need-same-length-4 Inv-loop μ-loop
+same-length-4 c = long (c .before)
+
+returns-4 : tie.Need-returns-4 Inv-loop μ-loop
+returns-4 c = (all-taken (c .before .loop .inv) (c .loop-test .left), all-marked (c .before))
+
+pub accepted-spec : {M : Type 1} → statement M
+accepted-spec =
+    tie.close
+    (tie.spec
+    Inv-loop
+    μ-loop
+    stamp-after-requires
+    set-false-requires
+    same-length
+    returns
+    loop-holds
+    mul-variable
+    shared-slice-copy-out-variable
+    variable-requires
+    add-i
+    hint-requires
+    enum-told
+    same-length-2
+    returns-2
+    enum-known-w
+    set-true-requires
+    loop-less
+    loop-again
+    enum-told-2
+    same-length-3
+    returns-3
+    same-length-4
+    returns-4)

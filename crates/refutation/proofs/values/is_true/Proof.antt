@@ -1,0 +1,33 @@
+-- `refutation::values::is_true` meets its contract. Assumes nothing.
+use borrow.Author.Needs.{needs}
+use mathlib.Core.Path.{refl}
+use native.Mathlib.Omega.{arith}
+use Rattle.refutation.proofs.Signs.{word-is}
+use Rattle.refutation.proofs.values.is_true.Statement.{statement}
+use Rattle.refutation.proofs.values.is_true.Tie as tie
+
+variable-requires : tie.Need-variable-requires
+variable-requires c κs = search needs
+
+mul-result : tie.Need-mul-result
+mul-result c =
+    let v = rw (word-is _ (c .before .before .fits .w)) at (c .variable .ensures) in
+    omega arith
+
+shared-slice-read-result : tie.Need-shared-slice-read-result
+shared-slice-read-result c =
+    let v = rw (word-is _ (c .before .before .before .fits .w)) at (c .before .variable .ensures) in
+    omega arith
+
+mark-requires : tie.Need-mark-requires
+mark-requires c κs = search needs
+
+returns : tie.Need-returns
+returns c =
+    let is = word-is _ (c .before .before .before .before .fits .w) in
+    rw (c .before .before .variable .ensures, c .mark .ensures, is) refl
+
+pub is-true-spec : {M : Type 1} → statement M
+is-true-spec =
+    tie.close
+    (tie.spec variable-requires mul-result shared-slice-read-result mark-requires returns)

@@ -1,0 +1,121 @@
+// Steps: what a hint gives, whether a step is accepted, and all steps one after the other.
+use crate::Found;
+use crate::Judgement;
+use crate::literals::variable;
+use crate::places::clause_at;
+use crate::places::lookup;
+use crate::values::find;
+use crate::values::set_false;
+use crate::values::set_true;
+ghost use mathlib.Core.Path.{_≡_};
+ghost use mathlib.Core.List.{List, map};
+ghost use Prim.Native.Nat.{suc, _+_, _<_, _≤_};
+ghost use lib.ListN.{length, drop};
+ghost use lib.IntN.{ℤ};
+ghost use Rattle.clauses.specs.Clauses.{variable-of};
+ghost use Rattle.clauses.specs.CnfWords.{clauses-of};
+ghost use Rattle.clauses.specs.Refutations.{hint-outcome, step, steps-of, step-accepted, judge-steps};
+ghost use Rattle.refutation.specs.Promise.{answer-of};
+ghost use Rattle.refutation.specs.Work.{stamps-limit, LiteralsWithin, Older, Values, Marked, outcome-found, known, Standing, StepsRight};
+
+// The stamp of the step that comes after so many: never 0, which is what a cleared word holds.
+fn stamp_after(done: usize) -> u64
+    requires { ⌜ suc done < stamps-limit ⌝ }
+    ensures { λ r. ⌜ r ≡ suc done ⌝ }
+{
+    done as u64 + 1
+}
+
+// What the hint of a number gives, in the step that comes after so many. The clauses of the CNF have the numbers up to `base`.
+fn hint<'a>(
+    limit: usize,
+    cnf: &'a [i32],
+    words: &'a [i32],
+    base: usize,
+    done: usize,
+    number: usize,
+    values: &[u64],
+    places: &[u64],
+) -> Found
+    requires known { ⌜ (1 ≤ number) × (number ≤ base + done) ⌝ }
+    requires standing { ⌜ Standing limit (now cnf) (now words) base done (now places) ⌝ }
+    requires room { ⌜ limit < length (now values) ⌝ }
+    ensures { λ r. ⌜ ((trues : List ℤ) → Values limit (suc done) trues (now (values .entry)) → outcome-found r ≡ hint-outcome (known (now (cnf .entry)) (now (words .entry)) done) trues number) ⌝ }
+{
+    let clause = lookup(cnf, words, base, number, places);
+    find(limit, stamp_after(done), clause, values)
+}
+
+// Whether a step is accepted, the one that comes after so many.
+fn accepted<'a>(
+    limit: usize,
+    cnf: &'a [i32],
+    words: &'a [i32],
+    base: usize,
+    done: usize,
+    clause: &[i32],
+    hints: &[i32],
+    values: &mut [u64],
+    places: &[u64],
+) -> bool
+    requires standing { ⌜ Standing limit (now cnf) (now words) base done (now places) ⌝ }
+    requires older { ⌜ Older limit (suc done) (now values) ⌝ }
+    requires right { ⌜ LiteralsWithin limit (now clause) × LiteralsWithin (base + done) (now hints) ⌝ }
+    ensures answer { λ r. ⌜ r ≡ step-accepted (known (now (cnf .entry)) (now (words .entry)) done) (step (now (clause .entry)) (map variable-of (now (hints .entry)))) ⌝ }
+    ensures marked { λ r. ⌜ Marked limit (suc done) (now (values .entry)) (now (values .exit)) ⌝ }
+{
+    let stamp = stamp_after(done);
+    if !set_false(limit, stamp, clause, values) {
+        return false;
+    }
+    let mut i = 0;
+    while i < hints.len() {
+        let number = variable(hints[i]);
+        i += 1;
+        match hint(limit, cnf, words, base, done, number, values, places) {
+            Found::Conflict => return i == hints.len(),
+            Found::Unit(w) => set_true(limit, stamp, w, values),
+            Found::Neither => return false,
+        }
+    }
+    false
+}
+
+// 13 and 14: the steps one after the other. Each accepted step's clause has its place written down.
+pub(crate) fn judge_steps<'a>(
+    limit: usize,
+    cnf: &'a [i32],
+    words: &'a [i32],
+    base: usize,
+    values: &mut [u64],
+    places: &mut [u64],
+) -> Judgement
+    requires right { ⌜ StepsRight limit base (now words) ⌝ }
+    requires standing { ⌜ Standing limit (now cnf) (now words) base 0 (now places) ⌝ }
+    requires older { ⌜ Older limit 1 (now values) ⌝ }
+    requires room { ⌜ base + length (steps-of (now words)) ≤ length (now places) ⌝ }
+    ensures answer { λ r. ⌜ answer-of r ≡ judge-steps (clauses-of (now (cnf .entry))) (steps-of (now (words .entry))) ⌝ }
+    ensures values { λ r. ⌜ drop (suc limit) (now (values .exit)) ≡ drop (suc limit) (now (values .entry)) ⌝ }
+    ensures places { λ r. ⌜ drop (base + length (steps-of (now (words .entry)))) (now (places .exit)) ≡ drop (base + length (steps-of (now (words .entry)))) (now (places .entry)) ⌝ }
+{
+    let mut done = 0;
+    let mut closed = false;
+    let mut at = 0;
+    while at < words.len() {
+        let clause = clause_at(words, at);
+        let from = at + clause.len() + 1;
+        let hints = clause_at(words, from);
+        if !accepted(limit, cnf, words, base, done, clause, hints, values, places) {
+            return Judgement::StepRefused(done);
+        }
+        places[base + done] = at as u64;
+        done += 1;
+        closed = clause.len() == 0;
+        at = from + hints.len() + 1;
+    }
+    if closed {
+        Judgement::Yes
+    } else {
+        Judgement::NotClosed(done)
+    }
+}

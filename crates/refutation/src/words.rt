@@ -1,0 +1,99 @@
+// The words of a CNF and of a refutation, checked and counted.
+use crate::Counted;
+use crate::literals::variable;
+ghost use mathlib.Core.Bool.{cond};
+ghost use mathlib.Core.Path.{_≡_};
+ghost use Prim.Native.Nat.{suc, _+_};
+ghost use Rattle.clauses.specs.Refutations.{earlier, word-right, literals, hints};
+ghost use Rattle.refutation.specs.Promise.{CnfCounted, StepsCounted};
+
+// Document 01's limit on the variables of a bare CNF.
+const VARIABLES_LIMIT: u32 = 65535;
+
+// 16: V, then the words in order, then cut short; else the number of clauses.
+pub(crate) fn count_clauses(variables: u32, cnf: &[i32]) -> Counted
+    ensures { λ r. ⌜ CnfCounted variables (now (cnf .entry)) r ⌝ }
+{
+    if VARIABLES_LIMIT < variables {
+        return Counted::BadAt(0);
+    }
+    let limit = variables as usize;
+    let mut clauses = 0;
+    let mut open = false;
+    let mut i = 0;
+    while i < cnf.len() {
+        let w = cnf[i];
+        if limit < variable(w) {
+            return Counted::BadAt(i);
+        }
+        if w == 0 {
+            clauses += 1;
+            open = false;
+        } else {
+            open = true;
+        }
+        i += 1;
+    }
+    if open {
+        return Counted::BadAt(i);
+    }
+    Counted::Count(clauses)
+}
+
+// A hint is an earlier clause: at least 1, and at most the clauses and the steps before its own.
+fn names_earlier(clauses: usize, steps: usize, hint: i32) -> bool
+    ensures { λ r. ⌜ r ≡ earlier (suc (clauses + steps)) hint ⌝ }
+{
+    if hint <= 0 {
+        return false;
+    }
+    let number = hint as usize;
+    if number <= clauses {
+        return true;
+    }
+    number - clauses <= steps
+}
+
+// A literal is at most V in size; a hint is an earlier clause.
+fn word_right(limit: usize, clauses: usize, steps: usize, hinting: bool, w: i32) -> bool
+    ensures { λ r. ⌜ r ≡ word-right limit (cond hinting hints literals) (suc (clauses + steps)) w ⌝ }
+{
+    if hinting {
+        if w == 0 {
+            return true;
+        }
+        return names_earlier(clauses, steps, w);
+    }
+    variable(w) <= limit
+}
+
+// 11: the first bad word, then cut short; else the number of steps.
+pub fn count_steps(variables: u32, clauses: usize, refutation: &[i32]) -> Counted
+    ensures { λ r. ⌜ StepsCounted variables clauses (now (refutation .entry)) r ⌝ }
+{
+    let limit = variables as usize;
+    let mut steps = 0;
+    let mut hints = false;
+    let mut open = false;
+    let mut i = 0;
+    while i < refutation.len() {
+        let w = refutation[i];
+        if !word_right(limit, clauses, steps, hints, w) {
+            return Counted::BadAt(i);
+        }
+        if w == 0 {
+            if hints {
+                steps += 1;
+            }
+            hints = !hints;
+            open = hints;
+        } else {
+            open = true;
+        }
+        i += 1;
+    }
+    if open {
+        return Counted::BadAt(i);
+    }
+    Counted::Count(steps)
+}
