@@ -1,0 +1,18 @@
+-- `encoder::count::with_reset` meets its contract. Assumes nothing.
+use borrow.Author.Needs.{needs}
+use native.Mathlib.Omega.{arith}
+use borrow.Author.Tests.{lt-ltb, le-ltb}
+use Rattle.encoder.proofs.count.with_reset.Statement.{statement}
+use Rattle.encoder.proofs.count.with_reset.Tie as tie
+
+add-result : tie.Need-add-result
+add-result c = search needs
+
+returns : tie.Need-returns
+returns c = rw (lt-ltb _ _ (c .if1 .taken))
+
+returns-2 : tie.Need-returns-2
+returns-2 c = rw (le-ltb _ _ (c .if1 .left)) (omega arith)
+
+pub with-reset-spec : {M : Type 1} → statement M
+with-reset-spec = tie.close (tie.spec add-result returns returns-2)

@@ -1,0 +1,64 @@
+-- `encoder::forms::until_form` meets its contract. Assumes nothing.
+use borrow.Author.Needs.{needs}
+use Rattle.encoder.proofs.Pieces.{wrote-then}
+use Rattle.encoder.proofs.Negation.{word-is, turned-fits, negation-is}
+use Rattle.encoder.proofs.forms.until_form.Statement.{statement}
+use Rattle.encoder.proofs.forms.until_form.Tie as tie
+
+sub-clause2 : tie.Need-sub-clause2
+sub-clause2 c = search (needs, turned-fits)
+
+clause2-requires : tie.Need-clause2-requires
+clause2-requires c κs = search needs
+
+sub-clause3 : tie.Need-sub-clause3
+sub-clause3 c = search (needs, turned-fits)
+
+sub-clause3-2 : tie.Need-sub-clause3-2
+sub-clause3-2 c = search (needs, turned-fits)
+
+clause3-requires : tie.Need-clause3-requires
+clause3-requires c κs = search needs
+
+sub-clause3-3 : tie.Need-sub-clause3-3
+sub-clause3-3 c = search (needs, turned-fits)
+
+clause3-requires-2 : tie.Need-clause3-requires-2
+clause3-requires-2 c κs = search needs
+
+sub-clause3-4 : tie.Need-sub-clause3-4
+sub-clause3-4 c = search (needs, turned-fits)
+
+clause3-requires-3 : tie.Need-clause3-requires-3
+clause3-requires-3 c κs = search needs
+
+same-length : tie.Need-same-length
+same-length c = search needs
+
+returns : tie.Need-returns
+returns c =
+    let third = c .before .before .before .before in
+    let second = third .before .before .before in
+    let first = second .before .before .before in
+    let n = first .before .before .pre in
+    let hx = n .1 in
+    let ha = n .2 in
+    let hb = n .3 in
+    let hy = n .4 in
+    simp (word-is, negation-is) at (wrote-then (first .clause2 .ensures) (wrote-then (second .clause3 .ensures) (wrote-then (third .clause32 .ensures) (c .before .clause33 .ensures))))
+
+pub until-form-spec : {M : Type 1} → statement M
+until-form-spec =
+    tie.close
+    (tie.spec
+    sub-clause2
+    clause2-requires
+    sub-clause3
+    sub-clause3-2
+    clause3-requires
+    sub-clause3-3
+    clause3-requires-2
+    sub-clause3-4
+    clause3-requires-3
+    same-length
+    returns)

@@ -1,0 +1,20 @@
+-- `encoder::literals::width` meets its contract: within the limits no sum wraps. Assumes nothing.
+use borrow.Author.Needs.{needs}
+use native.Mathlib.Omega.{arith}
+use Rattle.meaning.specs.Limits.{inputs-limit, latches-limit, gates-limit}
+use Rattle.encoder.proofs.literals.width.Statement.{statement}
+use Rattle.encoder.proofs.literals.width.Tie as tie
+
+add-result : tie.Need-add-result
+unfolding inputs-limit latches-limit gates-limit
+add-result c = omega arith
+
+add-result-2 : tie.Need-add-result-2
+unfolding inputs-limit latches-limit gates-limit
+add-result-2 c = omega arith
+
+returns : tie.Need-returns
+returns c = search needs
+
+pub width-spec : {M : Type 1} → statement M
+width-spec = tie.close (tie.spec add-result add-result-2 returns)

@@ -1,0 +1,3 @@
+-- What the writer of the CNF promises, and what each piece of it writes.
+pub mod Promise
+pub mod Work
