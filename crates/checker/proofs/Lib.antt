@@ -1,5 +1,4 @@
 -- The plain mathematics of the crate's proofs.
-pub mod Signs
 pub mod Buffers
 pub mod JobBytes
 pub mod Decimals

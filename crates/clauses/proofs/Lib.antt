@@ -1,5 +1,6 @@
 -- What follows from the definitions of specs/.
 pub mod Satisfaction
+pub mod Signs
 pub mod Answers
 pub mod Sound
 pub mod ReadBack

@@ -11,7 +11,7 @@ use mir.Syntax.{w32}
 use mir.Val.{SFits}
 use Rattle.clauses.specs.Clauses.{variable-of}
 use Rattle.clauses.specs.Refutations.{earlier}
-use Rattle.refutation.proofs.Signs.{word, word-is}
+use Rattle.clauses.proofs.Signs.{word, word-is}
 
 not-earlier : (own : ℕ) (z : ℤ) → leZ z (pos 0) ≡ true → false ≡ earlier own z
 not-earlier own (pos zero) b = refl

@@ -1,5 +1,4 @@
 -- The plain mathematics of the crate's proofs.
-pub mod Signs
 pub mod Hints
 pub mod Scan
 pub mod ClauseCount

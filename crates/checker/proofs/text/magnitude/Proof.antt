@@ -1,7 +1,7 @@
 -- `checker::text::magnitude` meets its contract. What the bits of a word say is read back as the word, and its negation fits 64 bits.
 -- Assumes nothing.
 use borrow.Author.Needs.{needs}
-use Rattle.checker.proofs.Signs.{widened, turned-fits, turned-read, variable-fits, not-negative, word-is}
+use Rattle.clauses.proofs.Signs.{widened, turned-fits, turned-read, variable-fits, not-negative, word-is}
 use Rattle.checker.proofs.text.magnitude.Statement.{statement}
 use Rattle.checker.proofs.text.magnitude.Tie as tie
 

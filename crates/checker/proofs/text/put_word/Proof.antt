@@ -12,7 +12,7 @@ use Rattle.clauses.specs.Clauses.{variable-of}
 use Rattle.clauses.specs.CnfWords.{is-0}
 use Rattle.meaning.specs.JobFile.{decimal}
 use Rattle.checker.specs.Text.{Put}
-use Rattle.checker.proofs.Signs.{word-is, at-0, not-0}
+use Rattle.clauses.proofs.Signs.{word-is, at-0, not-0}
 use Rattle.checker.proofs.Buffers.{put-byte, put-then, inside-after, put-closed, closed-length}
 use Rattle.checker.proofs.Printing.{text-0, text-negative, text-positive, length-0, length-negative, length-positive}
 use Rattle.checker.proofs.text.put_word.Statement.{statement}

@@ -8,7 +8,7 @@ use lib.Seq.{take-length}
 use mir.Syntax.{w32}
 use mir.Val.{SFits}
 use Rattle.checker.specs.Text.{words-text, Put}
-use Rattle.checker.proofs.Signs.{word-is}
+use Rattle.clauses.proofs.Signs.{word-is}
 use Rattle.checker.proofs.Buffers.{put-none}
 use Rattle.checker.proofs.Printing.{room-for-word, put-next-word}
 use Rattle.checker.proofs.text.put_words.Statement.{statement}

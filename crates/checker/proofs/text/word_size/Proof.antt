@@ -5,7 +5,7 @@ use borrow.Author.Needs.{needs}
 use lib.ListN.{length}
 use Rattle.clauses.specs.Clauses.{variable-of}
 use Rattle.meaning.specs.JobFile.{decimal}
-use Rattle.checker.proofs.Signs.{word-is, at-0, not-0}
+use Rattle.clauses.proofs.Signs.{word-is, at-0, not-0}
 use Rattle.checker.proofs.Decimals.{length-u64}
 use Rattle.checker.proofs.Printing.{length-0, length-negative, length-positive}
 use Rattle.checker.proofs.text.word_size.Statement.{statement}

@@ -7,7 +7,7 @@ use lib.ListN.{length, getD, take}
 use lib.Seq.{take-length}
 use Rattle.checker.specs.Text.{word-text, words-text}
 use Rattle.checker.specs.Promise.{size}
-use Rattle.checker.proofs.Signs.{word-is}
+use Rattle.clauses.proofs.Signs.{word-is}
 use Rattle.checker.proofs.Printing.{size-more}
 use Rattle.checker.proofs.text.words_size.Statement.{statement}
 use Rattle.checker.proofs.text.words_size.Tie as tie

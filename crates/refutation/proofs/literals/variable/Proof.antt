@@ -1,7 +1,7 @@
 -- `refutation::literals::variable` meets its contract. What the bits of a word say is read back as the word, and its negation fits 64 bits.
 -- Assumes nothing.
 use borrow.Author.Needs.{needs}
-use Rattle.refutation.proofs.Signs.{widened, turned-fits, turned-read, variable-fits, not-negative, word-is}
+use Rattle.clauses.proofs.Signs.{widened, turned-fits, turned-read, variable-fits, not-negative, word-is}
 use Rattle.refutation.proofs.literals.variable.Statement.{statement}
 use Rattle.refutation.proofs.literals.variable.Tie as tie
 

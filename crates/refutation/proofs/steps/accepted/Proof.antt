@@ -13,7 +13,7 @@ use mir.Val.{SFits}
 use Rattle.clauses.specs.Clauses.{Clause, variable-of}
 use Rattle.clauses.specs.Refutations.{unit, hint-outcome}
 use Rattle.refutation.specs.Work.{stamps-limit, Marked, outcome-found, known}
-use Rattle.refutation.proofs.Signs.{word-is}
+use Rattle.clauses.proofs.Signs.{word-is}
 use Rattle.refutation.proofs.Marks.{literal-at, within-at, within-at-least, within-at-most}
 use Rattle.refutation.proofs.Known.{Unset, known-fits, hint-unset}
 use Rattle.refutation.proofs.HintsTaken.{Taken, marked-on, both-signs-refused, none-taken, all-taken, at-conflict, at-neither, at-unit}

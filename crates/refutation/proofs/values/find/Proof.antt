@@ -9,7 +9,7 @@ use borrow.Author.Tests.{not-true, not-false}
 use lib.ListN.{length, take}
 use mir.Syntax.{w32}
 use mir.Val.{SFits}
-use Rattle.refutation.proofs.Signs.{word-is}
+use Rattle.clauses.proofs.Signs.{word-is}
 use Rattle.refutation.proofs.Marks.{At, literal-at, literal-fits}
 use Rattle.refutation.proofs.Finding.{Gives, find-none, find-skip, find-true, find-other, find-first, find-again, find-conflict, find-unit}
 use Rattle.refutation.proofs.values.find.Statement.{statement}

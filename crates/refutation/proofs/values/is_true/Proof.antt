@@ -2,7 +2,7 @@
 use borrow.Author.Needs.{needs}
 use mathlib.Core.Path.{refl}
 use native.Mathlib.Omega.{arith}
-use Rattle.refutation.proofs.Signs.{word-is}
+use Rattle.clauses.proofs.Signs.{word-is}
 use Rattle.refutation.proofs.values.is_true.Statement.{statement}
 use Rattle.refutation.proofs.values.is_true.Tie as tie
 

@@ -6,7 +6,7 @@ use mathlib.Core.Bool.{not, true≢false}
 use native.Mathlib.Omega.{arith}
 use borrow.Author.Needs.{sfits-of}
 use lib.ListN.{length, take}
-use Rattle.refutation.proofs.Signs.{word, word-is}
+use Rattle.clauses.proofs.Signs.{word, word-is}
 use Rattle.refutation.proofs.Marks.{At, literal-at, SetFalse, set-false-none, set-false-turn, set-false-stop, set-false-all, literal-fits}
 use Rattle.refutation.proofs.values.set_false.Statement.{statement}
 use Rattle.refutation.proofs.values.set_false.Tie as tie

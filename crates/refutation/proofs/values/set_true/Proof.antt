@@ -1,7 +1,7 @@
 -- `refutation::values::set_true` meets its contract. Assumes nothing.
 use borrow.Author.Needs.{needs}
 use native.Mathlib.Omega.{arith}
-use Rattle.refutation.proofs.Signs.{word-is}
+use Rattle.clauses.proofs.Signs.{word-is}
 use Rattle.refutation.proofs.Marks.{set-true-fits, set-true}
 use Rattle.refutation.proofs.values.set_true.Statement.{statement}
 use Rattle.refutation.proofs.values.set_true.Tie as tie

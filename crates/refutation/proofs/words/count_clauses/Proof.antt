@@ -13,7 +13,7 @@ use Rattle.clauses.specs.Limits.{variables-limit}
 use Rattle.clauses.specs.Answers.{first-failing, granted}
 use Rattle.clauses.specs.Clauses.{variable-of}
 use Rattle.clauses.specs.CnfWords.{cnf-checks, clauses-of}
-use Rattle.refutation.proofs.Signs.{word-is, at-0, not-0}
+use Rattle.clauses.proofs.Signs.{word-is, at-0, not-0}
 use Rattle.refutation.proofs.Scan.{rest, at-cut, at-end, at-wrong, at-right}
 use Rattle.refutation.proofs.ClauseCount.{tally, tally-0, tally-other, reader, read-cnf, limit-passed}
 use Rattle.refutation.proofs.words.count_clauses.Statement.{statement}

@@ -11,7 +11,7 @@ use mir.Syntax.{w32}
 use mir.Val.{SFits}
 use Rattle.clauses.specs.Answers.{first-failing, granted}
 use Rattle.clauses.specs.Refutations.{word-right, refutation-checks, steps-of}
-use Rattle.refutation.proofs.Signs.{word-is, at-0, not-0}
+use Rattle.clauses.proofs.Signs.{word-is, at-0, not-0}
 use Rattle.refutation.proofs.Scan.{rest, at-cut, at-end, at-wrong, at-right}
 use Rattle.refutation.proofs.StepCount.{tally, step-ended, step-left, tally-0, tally-other, part-of, reader, read-refutation}
 use Rattle.refutation.proofs.words.count_steps.Statement.{statement}

@@ -2,7 +2,7 @@
 -- Assumes nothing.
 use Prim.Native.Nat.{suc, _+_}
 use borrow.Author.Needs.{needs}
-use Rattle.refutation.proofs.Signs.{word-is, variable-fits}
+use Rattle.clauses.proofs.Signs.{word-is, variable-fits}
 use Rattle.refutation.proofs.Hints.{not-over-0, over-0, names-clause, names-step}
 use Rattle.refutation.proofs.words.names_earlier.Statement.{statement}
 use Rattle.refutation.proofs.words.names_earlier.Tie as tie

@@ -4,7 +4,7 @@ use mathlib.Core.Path.{ap, _∙_}
 use Prim.Native.Nat.{suc, _+_}
 use borrow.Author.Needs.{needs}
 use Rattle.clauses.specs.Refutations.{earlier}
-use Rattle.refutation.proofs.Signs.{word-is, at-0, not-0}
+use Rattle.clauses.proofs.Signs.{word-is, at-0, not-0}
 use Rattle.refutation.proofs.words.word_right.Statement.{statement}
 use Rattle.refutation.proofs.words.word_right.Tie as tie
 
