@@ -1,4 +1,5 @@
 // Items 2 to 5 of the CNF: the gates, the resets, the steps and the closing of the loop.
+// Each writer takes the problem as its words and sizes, the room, and where to write; it answers where the next one writes.
 use crate::forms::and_form;
 use crate::forms::equal_form;
 use crate::forms::guarded_form;
