@@ -1,4 +1,4 @@
--- What the functions' proofs share, and that the promise decides the judgement.
+-- What the functions' proofs share, that the promise decides the judgement, and that wrong versions break it.
 pub mod Sizing
 pub mod Values
 pub mod Copies
@@ -11,3 +11,4 @@ pub mod Tables
 pub mod Checking
 pub mod Judging
 pub mod Unique
+pub mod Lazy

@@ -12,24 +12,19 @@ use Rattle.meaning.specs.Problem.{Node, node, word, node-of, header, node-place
 use Rattle.meaning.specs.Formulas.{formula}
 use Rattle.meaning.specs.Bounded.{bounded-value}
 use Rattle.meaning.specs.Witnesses as Witnesses
-use Rattle.meaning.proofs.Check.{nodes-of-words, node-of-words, bound-of-words}
+use Rattle.meaning.proofs.Check.{node-of-words}
 use Rattle.problem.specs.declared.Sizes.{Sizes}
 use Rattle.witness.specs.declared.nodes.Span.{Span}
 use Rattle.witness.specs.Tables.{Ready, TablesReady, PassReady, FormulaReady, RowsRight, SpanRight, LawsBelow, nodes-room, at-node, shape-given}
+use Rattle.witness.proofs.Sizing.{sizes-read}
 use Rattle.witness.proofs.Laws.{laws-at, formula-right}
 
 module _ {ws : List ℕ} {s : Sizes} (ready : Ready ws s) where
-  pub nodes-are : s .nodes ≡ length (problem ws .nodes)
-  nodes-are = rw (ready .sizes-are, nodes-of-words)
-
-  pub bound-is : s .bound ≡ problem ws .bound
-  bound-is = rw (ready .sizes-are, bound-of-words)
-
   pub node-there : {n : ℕ} → n < s .nodes → n < length (problem ws .nodes)
-  node-there l = let e = nodes-are in omega arith
+  node-there l = let e = sizes-read ready .nodes-are in omega arith
 
   pub node-within : {n : ℕ} → n < s .nodes → n < nodes-limit
-  node-within l = let h = ready .proper .nodes-within in let e = nodes-are in omega arith
+  node-within l = let h = ready .proper .nodes-within in let e = sizes-read ready .nodes-are in omega arith
 
   node-from : (n : ℕ) → s .«nodes_from» + 3 * n ≡ node-place (header ws) n
   node-from n = simp (ready .sizes-are, add-zero)
@@ -44,7 +39,7 @@ module _ {ws : List ℕ} {s : Sizes} (ready : Ready ws s) where
 
 module _ {ws : List ℕ} {s : Sizes} {span : Span} {rows t : List Bool} (tables : TablesReady ws s span rows t) where
   pub last-right : span .last ≡ problem ws .bound
-  last-right = tables .last-is ∙ bound-is (tables .ready)
+  last-right = tables .last-is ∙ sizes-read (tables .ready) .bound-is
 
   pub tables-stay : {u : List Bool} → length u ≡ length t → TablesReady ws s span rows u
   tables-stay same = record {
@@ -77,7 +72,7 @@ span-given s lasso start = record { last = s .bound; lasso = lasso; start = star
 module _ {ws : List ℕ} {s : Sizes} {lasso : Bool} {start : ℕ} {rows : List Bool} (given : FormulaReady ws s lasso start rows) where
   span-right : SpanRight (span-given s lasso start)
   span-right = record {
-    last-within = let h = given .ready .proper .bound-within in let e = bound-is (given .ready) in omega arith;
+    last-within = let h = given .ready .proper .bound-within in let e = sizes-read (given .ready) .bound-is in omega arith;
     start-within = given .start-within;
   }
 
@@ -95,5 +90,5 @@ module _ {ws : List ℕ} {s : Sizes} {lasso : Bool} {start : ℕ} {rows : List B
       → r ≡ bounded-value (shape-given lasso start) (problem ws .bound) (Witnesses.rows (problem ws) bs) (formula (problem ws)) 0
   formula-from {t} laws r-is bs right =
       r-is
-      ∙ ap (λ (n : ℕ). at-node t (n - 1) 0) (nodes-are (given .ready))
-      ∙ formula-right (given .ready .proper) span-right (bound-is (given .ready)) right (laws-at (nodes-are (given .ready)) laws)
+      ∙ ap (λ (n : ℕ). at-node t (n - 1) 0) (sizes-read (given .ready) .nodes-are)
+      ∙ formula-right (given .ready .proper) span-right (sizes-read (given .ready) .bound-is) right (laws-at (sizes-read (given .ready) .nodes-are) laws)

@@ -21,7 +21,7 @@ ghost use Rattle.pairing.specs.NodeLaws.{left-value, at-next};
 ghost use Rattle.problem.specs.Promise.{left-of, node-read};
 ghost use Rattle.witness.specs.Tables.{RowsRight, SpanRight, OpReady, PassReady, Passed, TablesReady, StepReady, FormulaReady, LawsBelow, row-in, rows-room, at-node, E-in, op-in, Q-end, shape-in, shape-given};
 
-// As many nodes and positions as document 01's limits allow, and the variables of a row.
+// As many nodes as document 01's limits allow.
 const NODES: usize = 64;
 
 // A row of P and one of Q for each node.

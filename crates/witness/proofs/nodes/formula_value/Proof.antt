@@ -5,7 +5,8 @@ use lib.ListN.{length-replicate}
 use borrow.Author.Needs.{needs}
 use Rattle.meaning.specs.Limits.{nodes-limit, bound-limit}
 use Rattle.witness.specs.Tables.{positions-limit}
-use Rattle.witness.proofs.NodeReading.{nodes-are, tables-given, formula-from}
+use Rattle.witness.proofs.Sizing.{sizes-read}
+use Rattle.witness.proofs.NodeReading.{tables-given, formula-from}
 use Rattle.witness.proofs.nodes.formula_value.Statement.{statement}
 use Rattle.witness.proofs.nodes.formula_value.Tie as tie
 
@@ -20,7 +21,9 @@ slice-aggregate-value-at : tie.Need-slice-aggregate-value-at
 slice-aggregate-value-at c = search needs
 
 sub-value-at : tie.Need-sub-value-at
-sub-value-at c = omega (arith, nodes-are (c .before .before .before .before .before .before .before .pre .ready), c .before .before .before .before .before .before .before .pre .ready .proper .nodes-some)
+sub-value-at c =
+    let ready = c .before .before .before .before .before .before .before .pre .ready in
+    omega (arith, sizes-read ready .nodes-are, ready .proper .nodes-some)
 
 value-at-requires : tie.Need-value-at-requires
 value-at-requires c κs = search needs

@@ -1,0 +1,343 @@
+-- Judges of a witness that are lazy or wrong do not meet the promise: for each an input, and what it answers there. Assumes nothing.
+use mathlib.Core.Path.{_≡_, refl, sym, _∙_, ap}
+use mathlib.Core.List.{List, [], _∷_}
+use Prim.Native.Nat.{ℕ}
+use native.Mathlib.Omega.{arith}
+use Rattle.clauses.specs.Answers.{Answer}
+use Rattle.meaning.specs.Limits.{inputs-limit, latches-limit, gates-limit, nodes-limit, bound-limit}
+use Rattle.meaning.specs.Problem.{problem}
+use Rattle.meaning.specs.Check.{known-version, part-checks, parts-checked, problem-checked}
+use Rattle.meaning.specs.Runs.{values, next-values}
+use Rattle.meaning.specs.Formulas.{formula}
+use Rattle.meaning.specs.Witnesses.{run, judge-formula, judge-run, judge-bytes}
+use Rattle.meaning.specs.Calls.{judge-witness}
+use Rattle.meaning.specs.Cases.{T-words, H, one-input, one-free-latch}
+use Rattle.problem.specs.declared.Refusal.the-variants.{BadVersion, BadReset}
+use Rattle.witness.specs.declared.Judgement.{Judgement}
+use Rattle.witness.specs.declared.Judgement.the-variants.{Yes, Problem, BadWitness, AgainstReset, OpenLoop, FormulaFalse}
+use Rattle.witness.specs.Promise.{answer-of}
+use Rattle.witness.proofs.Unique.{judgement-unique}
+
+-- ════════ What it is to break the promise ════════
+
+-- An input, and the judgement that meets the judge's promise for it; each theorem below computes that it does.
+pub record Input : Type 0 where
+  pub version : ℕ
+  pub words : List ℕ
+  pub bytes : List ℕ
+  pub right : Judgement
+
+-- The answer that document 01 lays down.
+unfoldable pub laid-down : Input → Answer
+unfolding known-version inputs-limit latches-limit gates-limit nodes-limit bound-limit part-checks parts-checked problem-checked judge-witness problem values next-values formula run judge-formula judge-run judge-bytes
+laid-down x = judge-witness (x .version) (x .words) (x .bytes)
+
+-- This judgement meets the promise for the input, or does not.
+abbrev pub Meets : Input → Judgement → Type 0
+Meets x r = answer-of r ≡ judge-witness (x .version) (x .words) (x .bytes)
+
+abbrev pub Wrong : Input → Judgement → Type 0
+Wrong x r = ¬ (Meets x r)
+
+-- Whatever is not the right judgement is wrong; so is another number, and another place.
+module _ (x : Input) (r : Judgement) (meets : Meets x (x .right)) where
+  pub other : ¬ (r ≡ x .right) → Wrong x r
+  other h e = h (judgement-unique (x .version) (x .words) (x .bytes) r (x .right) e meets)
+
+  pub other-number : ¬ (answer-of r .number ≡ answer-of (x .right) .number) → Wrong x r
+  other-number h e = h (ap (λ (a : Answer). a .number) (e ∙ sym meets))
+
+  pub other-place : ¬ (answer-of r .place ≡ answer-of (x .right) .place) → Wrong x r
+  other-place h e = h (ap (λ (a : Answer). a .place) (e ∙ sym meets))
+
+-- Words and bytes under the known version, and the right judgement.
+abbrev pub over : List ℕ → List ℕ → Judgement → Input
+over words bytes r = record { version = 1; words = words; bytes = bytes; right = r }
+
+-- ════════ Refuses all, says 10 always ════════
+
+-- H with F 12 at k = 3: 0 2 4 2 3, 3 0, 11 0, 2 5, 3 4, 7 9, 2 4, 0 12 0, 4 0 0
+abbrev pub H-finally : List ℕ
+H-finally = H 2 3 (0 ∷ 12 ∷ 0 ∷ 4 ∷ 0 ∷ 0 ∷ [])
+
+-- 1 0 0: the loop starts at 0
+abbrev pub H-lasso : Input
+H-lasso = over H-finally (1 ∷ 0 ∷ 0 ∷ []) Yes
+
+pub refuses-all-breaks : (r : Judgement) → ¬ (r ≡ Yes) → Wrong H-lasso r
+unfolding laid-down
+refuses-all-breaks r = other H-lasso r refl
+
+pub says-10-always-breaks : Wrong H-lasso FormulaFalse
+unfolding laid-down
+says-10-always-breaks = other-number H-lasso FormulaFalse refl (λ e. omega arith)
+
+-- 0 0 0: a prefix
+abbrev pub H-prefix : Input
+H-prefix = over H-finally (0 ∷ 0 ∷ 0 ∷ []) Yes
+
+pub refuses-all-prefixes-breaks : (r : Judgement) → ¬ (r ≡ Yes) → Wrong H-prefix r
+unfolding laid-down
+refuses-all-prefixes-breaks r = other H-prefix r refl
+
+-- ════════ Accepts all, or leaves a check out ════════
+
+-- H with F 12 at k = 2, and 0 0 0: full comes at 3
+abbrev pub H-too-short : Input
+H-too-short = over (H 2 2 (0 ∷ 12 ∷ 0 ∷ 4 ∷ 0 ∷ 0 ∷ [])) (0 ∷ 0 ∷ 0 ∷ []) FormulaFalse
+
+pub accepts-all-breaks : Wrong H-too-short Yes
+unfolding laid-down
+accepts-all-breaks = other-number H-too-short Yes refl (λ e. omega arith)
+
+-- 0 0 0 0: a byte more than the prefix has
+abbrev pub H-long : Input
+H-long = over H-finally (0 ∷ 0 ∷ 0 ∷ 0 ∷ []) (BadWitness 4)
+
+pub length-not-checked-breaks : Wrong H-long Yes
+unfolding laid-down
+length-not-checked-breaks = other-number H-long Yes refl (λ e. omega arith)
+
+-- 0 0 2: a latch byte that is neither 0 nor 1
+abbrev pub H-two : Input
+H-two = over H-finally (0 ∷ 0 ∷ 2 ∷ []) (BadWitness 2)
+
+pub bytes-not-checked-breaks : Wrong H-two Yes
+unfolding laid-down
+bytes-not-checked-breaks = other-number H-two Yes refl (λ e. omega arith)
+
+-- 0 0 1: the counter starts at 2, and full comes at 1
+abbrev pub H-against : Input
+H-against = over H-finally (0 ∷ 0 ∷ 1 ∷ []) (AgainstReset 2)
+
+pub resets-not-checked-breaks : Wrong H-against Yes
+unfolding laid-down
+resets-not-checked-breaks = other-number H-against Yes refl (λ e. omega arith)
+
+-- 3 0 0: after 3 the counter is at 0, and the loop starts at 2
+abbrev pub H-open : Input
+H-open = over H-finally (3 ∷ 0 ∷ 0 ∷ []) (OpenLoop 1)
+
+pub loop-not-checked-breaks : Wrong H-open Yes
+unfolding laid-down
+loop-not-checked-breaks = other-number H-open Yes refl (λ e. omega arith)
+
+-- ════════ Places that are made up ════════
+
+-- 0 0: the length is 2
+abbrev pub H-short : Input
+H-short = over H-finally (0 ∷ 0 ∷ []) (BadWitness 2)
+
+pub made-up-length-breaks : (i : ℕ) → ¬ (i ≡ 2) → Wrong H-short (BadWitness i)
+unfolding laid-down
+made-up-length-breaks i = other-place H-short (BadWitness i) refl
+
+-- 0 2 0: byte 1 is over 1
+abbrev pub H-bad-byte : Input
+H-bad-byte = over H-finally (0 ∷ 2 ∷ 0 ∷ []) (BadWitness 1)
+
+pub made-up-byte-breaks : (i : ℕ) → ¬ (i ≡ 1) → Wrong H-bad-byte (BadWitness i)
+unfolding laid-down
+made-up-byte-breaks i = other-place H-bad-byte (BadWitness i) refl
+
+-- 5 0 0: byte 0 is over k + 1 = 4
+abbrev pub H-bad-start : Input
+H-bad-start = over H-finally (5 ∷ 0 ∷ 0 ∷ []) (BadWitness 0)
+
+pub made-up-start-byte-breaks : (i : ℕ) → ¬ (i ≡ 0) → Wrong H-bad-start (BadWitness i)
+unfolding laid-down
+made-up-start-byte-breaks i = other-place H-bad-start (BadWitness i) refl
+
+pub made-up-reset-place-breaks : (i : ℕ) → ¬ (i ≡ 2) → Wrong H-against (AgainstReset i)
+unfolding laid-down
+made-up-reset-place-breaks i = other-place H-against (AgainstReset i) refl
+
+pub made-up-latch-breaks : (i : ℕ) → ¬ (i ≡ 1) → Wrong H-open (OpenLoop i)
+unfolding laid-down
+made-up-latch-breaks i = other-place H-open (OpenLoop i) refl
+
+-- T with a reset of 3, at word 6: 0 1 0 1 0, 3 3, 0 2 0; no bytes
+abbrev pub T-bad : Input
+T-bad = over (0 ∷ 1 ∷ 0 ∷ 1 ∷ 0 ∷ 3 ∷ 3 ∷ 0 ∷ 2 ∷ 0 ∷ []) [] (Problem (BadReset 6))
+
+pub made-up-word-breaks : (i : ℕ) → ¬ (i ≡ 6) → Wrong T-bad (Problem (BadReset i))
+unfolding laid-down
+made-up-word-breaks i = other-place T-bad (Problem (BadReset i)) refl
+
+-- ════════ The order of checks turned round ════════
+
+-- 5 0 0 0: byte 0 is out of range, and the length is 4
+abbrev pub H-long-bad : Input
+H-long-bad = over H-finally (5 ∷ 0 ∷ 0 ∷ 0 ∷ []) (BadWitness 4)
+
+pub byte-before-length-breaks : Wrong H-long-bad (BadWitness 0)
+unfolding laid-down
+byte-before-length-breaks = other-place H-long-bad (BadWitness 0) refl (λ e. omega arith)
+
+-- 5 0 2: bytes 0 and 2 are out of range
+abbrev pub H-two-bad : Input
+H-two-bad = over H-finally (5 ∷ 0 ∷ 2 ∷ []) (BadWitness 0)
+
+pub later-byte-first-breaks : Wrong H-two-bad (BadWitness 2)
+unfolding laid-down
+later-byte-first-breaks = other-place H-two-bad (BadWitness 2) refl (λ e. omega arith)
+
+-- 5 0 1: byte 0 is out of range, and byte 2 against its reset
+abbrev pub H-bad-against : Input
+H-bad-against = over H-finally (5 ∷ 0 ∷ 1 ∷ []) (BadWitness 0)
+
+pub reset-before-bytes-breaks : (i : ℕ) → Wrong H-bad-against (AgainstReset i)
+unfolding laid-down
+reset-before-bytes-breaks i = other-number H-bad-against (AgainstReset i) refl (λ e. omega arith)
+
+-- 0 1 1: both latches are against their resets
+abbrev pub H-both-against : Input
+H-both-against = over H-finally (0 ∷ 1 ∷ 1 ∷ []) (AgainstReset 1)
+
+pub later-reset-first-breaks : Wrong H-both-against (AgainstReset 2)
+unfolding laid-down
+later-reset-first-breaks = other-place H-both-against (AgainstReset 2) refl (λ e. omega arith)
+
+-- T with 1 1: the latch is against its reset, and the loop does not close
+abbrev pub T-both : Input
+T-both = over T-words (1 ∷ 1 ∷ []) (AgainstReset 1)
+
+pub loop-before-reset-breaks : (i : ℕ) → Wrong T-both (OpenLoop i)
+unfolding laid-down
+loop-before-reset-breaks i = other-number T-both (OpenLoop i) refl (λ e. omega arith)
+
+-- 4 0 0: after 3 the latches are 0 0, and at 3 they are 1 1
+abbrev pub H-both-open : Input
+H-both-open = over H-finally (4 ∷ 0 ∷ 0 ∷ []) (OpenLoop 0)
+
+pub later-latch-first-breaks : Wrong H-both-open (OpenLoop 1)
+unfolding laid-down
+later-latch-first-breaks = other-place H-both-open (OpenLoop 1) refl (λ e. omega arith)
+
+-- T with 1 0: the loop does not close, and the formula is false
+abbrev pub T-open : Input
+T-open = over T-words (1 ∷ 0 ∷ []) (OpenLoop 0)
+
+pub formula-before-loop-breaks : Wrong T-open FormulaFalse
+unfolding laid-down
+formula-before-loop-breaks = other-number T-open FormulaFalse refl (λ e. omega arith)
+
+pub witness-before-problem-breaks : (i : ℕ) → Wrong T-bad (BadWitness i)
+unfolding laid-down
+witness-before-problem-breaks i = other-number T-bad (BadWitness i) refl (λ e. omega arith)
+
+-- T, told as version 2, with no bytes
+abbrev pub T-other-version : Input
+T-other-version = record { version = 2; words = T-words; bytes = []; right = Problem BadVersion }
+
+pub version-not-first-breaks : (r : Judgement) → ¬ (r ≡ Problem BadVersion) → Wrong T-other-version r
+unfolding laid-down
+version-not-first-breaks r = other T-other-version r refl
+
+-- ════════ Inputs asked to match round the loop ════════
+
+-- F 2 with one input, k = 1: 1 0 0 2 1, 0 2 0, 4 0 0; bytes 1 0 1: input 0 at 0 and 1 at 1, where no latch has to close
+abbrev pub inputs-only : Input
+inputs-only = over (1 ∷ 0 ∷ 0 ∷ 2 ∷ 1 ∷ 0 ∷ 2 ∷ 0 ∷ 4 ∷ 0 ∷ 0 ∷ []) (1 ∷ 0 ∷ 1 ∷ []) Yes
+
+pub matching-inputs-breaks : (i : ℕ) → Wrong inputs-only (OpenLoop i)
+unfolding laid-down
+matching-inputs-breaks i = other-number inputs-only (OpenLoop i) refl (λ e. omega arith)
+
+-- The same beside a latch that is always 0: 1 1 0 2 1, 0 0, 0 2 0, 4 0 0; bytes 1 0 0 1
+abbrev pub inputs-and-latch : Input
+inputs-and-latch = over (1 ∷ 1 ∷ 0 ∷ 2 ∷ 1 ∷ 0 ∷ 0 ∷ 0 ∷ 2 ∷ 0 ∷ 4 ∷ 0 ∷ 0 ∷ []) (1 ∷ 0 ∷ 0 ∷ 1 ∷ []) Yes
+
+pub matching-inputs-beside-a-latch-breaks : (i : ℕ) → Wrong inputs-and-latch (OpenLoop i)
+unfolding laid-down
+matching-inputs-beside-a-latch-breaks i = other-number inputs-and-latch (OpenLoop i) refl (λ e. omega arith)
+
+-- ════════ Round the loop ════════
+
+-- H with G F 6 at k = 3, and 1 0 0: literal 6 is true at 1 only, so from 2 and 3 on it comes again before them
+abbrev pub H-again : Input
+H-again = over (H 3 3 (0 ∷ 6 ∷ 0 ∷ 4 ∷ 0 ∷ 0 ∷ 5 ∷ 1 ∷ 0 ∷ [])) (1 ∷ 0 ∷ 0 ∷ []) Yes
+
+pub until-ended-at-k-breaks : Wrong H-again FormulaFalse
+unfolding laid-down
+until-ended-at-k-breaks = other-number H-again FormulaFalse refl (λ e. omega arith)
+
+-- G F 2 with one input, k = 1: 1 0 0 3 1, 0 2 0, 4 0 0, 5 1 0; bytes 1 1 0: input 1 at 0 and 0 at 1
+abbrev pub input-again : Input
+input-again = over (1 ∷ 0 ∷ 0 ∷ 3 ∷ 1 ∷ 0 ∷ 2 ∷ 0 ∷ 4 ∷ 0 ∷ 0 ∷ 5 ∷ 1 ∷ 0 ∷ []) (1 ∷ 1 ∷ 0 ∷ []) Yes
+
+pub until-of-an-input-ended-at-k-breaks : Wrong input-again FormulaFalse
+unfolding laid-down
+until-of-an-input-ended-at-k-breaks = other-number input-again FormulaFalse refl (λ e. omega arith)
+
+-- G 2 with one input, k = 0: 1 0 0 2 0, 0 2 0, 5 0 0
+abbrev pub always-input : List ℕ
+always-input = one-input 2 (0 ∷ 2 ∷ 0 ∷ 5 ∷ 0 ∷ 0 ∷ [])
+
+-- 1 1: input 1 for ever
+abbrev pub always-lasso : Input
+always-lasso = over always-input (1 ∷ 1 ∷ []) Yes
+
+pub release-ended-with-false-breaks : Wrong always-lasso FormulaFalse
+unfolding laid-down
+release-ended-with-false-breaks = other-number always-lasso FormulaFalse refl (λ e. omega arith)
+
+-- X 2 with one input, k = 0: 1 0 0 2 0, 0 2 0, 3 0 0; bytes 1 1: after 0 comes 0
+abbrev pub next-lasso : Input
+next-lasso = over (one-input 2 (0 ∷ 2 ∷ 0 ∷ 3 ∷ 0 ∷ 0 ∷ [])) (1 ∷ 1 ∷ []) Yes
+
+pub next-of-the-last-read-as-false-breaks : Wrong next-lasso FormulaFalse
+unfolding laid-down
+next-of-the-last-read-as-false-breaks = other-number next-lasso FormulaFalse refl (λ e. omega arith)
+
+-- ════════ Past the end of a prefix ════════
+
+-- G 2 with one input, k = 0; bytes 0 1: a prefix with input 1
+abbrev pub always-prefix : Input
+always-prefix = over always-input (0 ∷ 1 ∷ []) FormulaFalse
+
+pub always-true-of-a-prefix-breaks : Wrong always-prefix Yes
+unfolding laid-down
+always-true-of-a-prefix-breaks = other-number always-prefix Yes refl (λ e. omega arith)
+
+-- H with 12 R 1 at k = 2, and 0 0 0: full has not come by 2
+abbrev pub release-prefix : Input
+release-prefix = over (H 3 2 (0 ∷ 12 ∷ 0 ∷ 0 ∷ 1 ∷ 0 ∷ 7 ∷ 0 ∷ 1 ∷ [])) (0 ∷ 0 ∷ 0 ∷ []) FormulaFalse
+
+pub release-ended-with-true-breaks : Wrong release-prefix Yes
+unfolding laid-down
+release-ended-with-true-breaks = other-number release-prefix Yes refl (λ e. omega arith)
+
+-- H with 12 R 1 at k = 3, and 0 0 0: full comes at 3
+abbrev pub released-prefix : Input
+released-prefix = over (H 3 3 (0 ∷ 12 ∷ 0 ∷ 0 ∷ 1 ∷ 0 ∷ 7 ∷ 0 ∷ 1 ∷ [])) (0 ∷ 0 ∷ 0 ∷ []) Yes
+
+pub no-release-on-a-prefix-breaks : Wrong released-prefix FormulaFalse
+unfolding laid-down
+no-release-on-a-prefix-breaks = other-number released-prefix FormulaFalse refl (λ e. omega arith)
+
+-- H with X 2 at k = 0, and 0 0 0: there is no position after 0
+abbrev pub next-prefix : Input
+next-prefix = over (H 2 0 (0 ∷ 2 ∷ 0 ∷ 3 ∷ 0 ∷ 0 ∷ [])) (0 ∷ 0 ∷ 0 ∷ []) FormulaFalse
+
+pub next-past-the-end-read-as-true-breaks : Wrong next-prefix Yes
+unfolding laid-down
+next-past-the-end-read-as-true-breaks = other-number next-prefix Yes refl (λ e. omega arith)
+
+-- ════════ A free latch held to a reset ════════
+
+-- One free latch with G 2, k = 0: 0 1 0 2 0, 2 2, 0 2 0, 5 0 0; bytes 1 1: it starts at 1
+abbrev pub free-latch : Input
+free-latch = over (one-free-latch 2 (0 ∷ 2 ∷ 0 ∷ 5 ∷ 0 ∷ 0 ∷ [])) (1 ∷ 1 ∷ []) Yes
+
+pub free-reset-taken-as-0-breaks : (i : ℕ) → Wrong free-latch (AgainstReset i)
+unfolding laid-down
+free-reset-taken-as-0-breaks i = other-number free-latch (AgainstReset i) refl (λ e. omega arith)
+
+-- One free latch with G 3, k = 0: 0 1 0 2 0, 2 2, 0 3 0, 5 0 0; bytes 1 0: it starts at 0
+abbrev pub free-latch-at-0 : Input
+free-latch-at-0 = over (one-free-latch 2 (0 ∷ 3 ∷ 0 ∷ 5 ∷ 0 ∷ 0 ∷ [])) (1 ∷ 0 ∷ []) Yes
+
+pub free-reset-taken-as-1-breaks : (i : ℕ) → Wrong free-latch-at-0 (AgainstReset i)
+unfolding laid-down
+free-reset-taken-as-1-breaks i = other-number free-latch-at-0 (AgainstReset i) refl (λ e. omega arith)
