@@ -5,4 +5,7 @@ pub mod Decimals
 pub mod Printing
 pub mod FlatText
 pub mod Sizes
+pub mod ProblemRefutation
+pub mod RefutedUnique
+pub mod LazyProblem
 pub mod Unique

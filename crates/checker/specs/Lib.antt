@@ -1,3 +1,4 @@
--- What reading a job file and printing promise.
+-- What reading a job file, printing and judging a refutation promise.
 pub mod Text
 pub mod Promise
+pub mod Refutation

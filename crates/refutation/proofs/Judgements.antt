@@ -21,7 +21,7 @@ use Rattle.refutation.specs.Promise.{answer-of, Judged}
 use Rattle.refutation.specs.Work.{CnfRight, StepsRight}
 
 -- A refusal does not depend on what comes after the checks.
-refused-anyway : (cs : List Check) (a b : Answer) {x : Answer} → x ≡ first-failing cs a → (x ≡ a → ⊥) → x ≡ first-failing cs b
+pub refused-anyway : (cs : List Check) (a b : Answer) {x : Answer} → x ≡ first-failing cs a → (x ≡ a → ⊥) → x ≡ first-failing cs b
 refused-anyway [] a b e n = absurd (n e)
 refused-anyway (c ∷ cs) a b {x} e n = go (c .passes) e (λ f. refused-anyway cs a b f n)
   where
@@ -48,7 +48,7 @@ step-checks-judged : (cs : List Clause) (i : ℕ) (ss : List Step) → all-of ju
 step-checks-judged cs i [] = refl
 step-checks-judged cs i (s ∷ ss) = step-checks-judged _ (suc i) ss
 
-steps-judged : (cs : List Clause) (ss : List Step) → judged (judge-steps cs ss) ≡ true
+pub steps-judged : (cs : List Clause) (ss : List Step) → judged (judge-steps cs ss) ≡ true
 unfolding judge-steps
 steps-judged cs ss = judged-first (step-checks cs 0 ss ++ _) (granted 0) (rw all-of-append (both-true (step-checks-judged cs 0 ss) refl)) refl
 
