@@ -8,11 +8,7 @@ use native.Mathlib.Omega.{arith}
 use lib.IntN.{ℤ}
 use lib.ListN.{length, take, drop, set, take-append-drop, length-append, length-drop}
 use lib.Seq.{length-take-le, take-at, drop-append-add, drop-drop, set-split}
-use Rattle.meaning.specs.Problem.{Problem, Node}
-use Rattle.meaning.specs.Cnf.{closing-clauses, E-clauses, selector, latch-at, next-at, E, Q-at}
-use Rattle.encoder.specs.Work.{Wrote, guarded-form}
-
--- ════════ Pieces one after the other ════════
+use Rattle.encoder.specs.Work.{Wrote}
 
 pub wrote-none : (at : ℕ) (a : List ℤ) → at ≤ length a → Wrote at [] a a at
 wrote-none at a h = record {
@@ -71,11 +67,3 @@ module _ {at m : ℕ} {xs a b : List ℤ} (first : Wrote at xs a b m) where
         ends = rw length-append (omega arith);
         holds = second .holds ∙ rw (front-after, rest-after (length ys), length-append, append-assoc (take at a), append-assoc xs, first .ends, add-assoc);
       }
-
--- ════════ The items' pairs ════════
-
-pub closing-guarded : (p : Problem) (l i : ℕ) → closing-clauses p l i ≡ guarded-form (selector p l) (latch-at p l i) (next-at p (p .bound) i)
-closing-guarded p l i = refl
-
-pub E-guarded : (p : Problem) (n : ℕ) (x : Node) (l : ℕ) → E-clauses p n x l ≡ guarded-form (selector p l) (E p n) (Q-at p n x l)
-E-guarded p n x l = refl

@@ -11,7 +11,6 @@ use mir.Facts.{toZ-pos}
 use Rattle.clauses.specs.Clauses.{negated}
 use Rattle.meaning.specs.Limits.{inputs-limit, latches-limit, gates-limit, nodes-limit, bound-limit}
 use Rattle.meaning.specs.Problem.{Problem, W}
-use Rattle.meaning.specs.Check.{Proper}
 use Rattle.meaning.specs.Cnf.{circuit-variable, literal-at, E, P}
 use Rattle.encoder.specs.Work.{Negatable, Small}
 
@@ -36,15 +35,6 @@ module _ {w b : ℕ} (small : Small w b) where
       let nodes : n ≤ nodes-limit = omega arith in
       let each : 2 * b + 3 ≤ 2 * bound-limit + 3 = omega arith in
       omega (arith, mul-le-mul positions more, mul-le-mul nodes each)
-
-pub small-within : {w b t : ℕ} → Small w b → t ≤ b → Small w t
-small-within {w} {b} {t} s h = record { width-within = s .width-within; bound-within = omega (arith, s .bound-within) }
-
-pub proper-small : (p : Problem) → Proper p → Small (W p) (p .bound)
-proper-small p h = record {
-  width-within = omega (arith, h .inputs-within, h .latches-within, h .gates-within);
-  bound-within = h .bound-within;
-}
 
 -- ════════ Words ════════
 
