@@ -92,7 +92,7 @@ word-written bs o i h =
 
 -- ════════ What a yes says ════════
 
-job-checks-refusing : (bs : List ℕ) → all-of refusing (job-checks bs) ≡ true
+pub job-checks-refusing : (bs : List ℕ) → all-of refusing (job-checks bs) ≡ true
 unfolding job-checks
 job-checks-refusing bs = refl
 

@@ -9,3 +9,4 @@ pub mod ProblemRefutation
 pub mod RefutedUnique
 pub mod LazyProblem
 pub mod Unique
+pub mod JobText

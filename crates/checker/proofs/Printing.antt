@@ -1,6 +1,6 @@
 -- Laws of the texts as they are put into a buffer. Assumes nothing.
 use mathlib.Core.Path.{_≡_, refl, sym, _∙_, ap}
-use mathlib.Core.Bool.{true, false, true≢false}
+use mathlib.Core.Bool.{Bool, true, false, cond, true≢false}
 use mathlib.Core.List.{List, [], _∷_, _++_, append-nil}
 use Prim.Native.Nat.{ℕ, _+_, _-_, _*_, _/_, _%_, _^_, _≤_, _<_, min}
 use native.Mathlib.Numerals.{add-one}
@@ -11,6 +11,7 @@ use lib.IntN.{ℤ, pos, negsuc}
 use lib.Signed.{ltZ}
 use lib.ListN.{length, getD, take, drop, set, length-append, take-append-drop}
 use lib.Seq.{take-suc}
+use Rattle.clauses.specs.Lists.{written}
 use Rattle.clauses.specs.Answers.{answer}
 use Rattle.clauses.specs.Clauses.{variable-of}
 use Rattle.clauses.specs.CnfWords.{is-0}
@@ -18,6 +19,7 @@ use Rattle.meaning.specs.JobFile.{bytes-of, digit, decimal, header-line, refusa
 use Rattle.meaning.proofs.Numbers.{each-append}
 use Rattle.checker.specs.Text.{word-text, words-text, flat-text, line-of, placed, Put}
 use Rattle.checker.specs.Promise.{largest-size, size, Prints}
+use Rattle.checker.specs.declared.text.Printed.{Printed}
 use Rattle.checker.specs.declared.text.Printed.the-variants.{Bytes, Short}
 use Rattle.checker.proofs.Decimals.{decimal-one, decimal-more, length-one, length-more}
 use Rattle.checker.proofs.Buffers.{placed-one, placed-last, put-then, put-length}
@@ -143,6 +145,22 @@ prints-bytes {text} {out} {n} {out′} h a =
     let fits : leb (length text) (length out) ≡ true = le-leb _ _ h in
     let whole : n ≡ length text = omega (arith, a .after) in
     record { answered = rw fits (ap Bytes whole); left = rw fits (a .held) }
+
+-- The bytes that were written lie within the buffer.
+abbrev count-of : Printed → ℕ
+count-of (Bytes n) = n
+count-of (Short n) = n
+
+abbrev was-written : Printed → Bool
+was-written (Bytes n) = true
+was-written (Short n) = false
+
+pub bytes-within : {text out : List ℕ} {n : ℕ} {out′ : List ℕ} → Prints text out (Bytes n) out′ → n ≤ length out′
+bytes-within {text} {out} {n} {out′} p = go (leb (length text) (length out)) (p .answered) (p .left)
+  where
+    go : (b : Bool) → Bytes n ≡ cond b (Bytes (length text)) (Short (size text)) → out′ ≡ cond b (written text out) out → n ≤ length out′
+    go true e f = omega (arith, ap count-of e, ap length f, length-append text (drop (length text) out))
+    go false e f = absurd (true≢false (ap was-written e))
 
 pub size-of-flat : (v c : ℕ) (ws : List ℤ) {h w n : ℕ} → h ≡ length (header-line v c) → w ≡ size (words-text ws)
     → n ≡ min (h + w) largest-size → n ≡ size (flat-text v c ws)

@@ -3,11 +3,15 @@ use mathlib.Core.Path.{_≡_}
 use mathlib.Core.Bool.{cond}
 use mathlib.Core.List.{List, _++_}
 use Prim.Native.Nat.{ℕ, _+_}
+use lib.Dec.{eqb}
 use lib.IntN.{ℤ}
 use lib.ListN.{length, take, drop}
 use Rattle.clauses.specs.Lists.{each, written}
+use Rattle.clauses.specs.Answers.{Answer}
 use Rattle.clauses.specs.CnfWords.{is-0}
-use Rattle.meaning.specs.JobFile.{bytes-of, decimal, signed-decimal, header-line}
+use Rattle.meaning.specs.Problem.{problem}
+use Rattle.meaning.specs.Cnf.{cnf, variables}
+use Rattle.meaning.specs.JobFile.{bytes-of, decimal, signed-decimal, header-line, cnf-text, refusal-line}
 
 -- ════════ The text ════════
 
@@ -24,6 +28,10 @@ flat-text v c ws = header-line v c ++ words-text ws
 -- A line of two numbers, as the header's and a refusal's.
 abbrev pub line-of : List ℕ → ℕ → List ℕ → ℕ → List ℕ
 line-of opening first between second = opening ++ decimal first ++ between ++ decimal second ++ bytes-of "\n"
+
+-- What is printed for words by the answer to them: the CNF's text, or the refusal's line.
+abbrev pub answer-text : Answer → List ℕ → List ℕ
+answer-text a ws = cond (eqb (a .number) 0) (cnf-text (variables (problem ws)) (cnf (problem ws))) (refusal-line a)
 
 -- ════════ In a buffer ════════
 

@@ -1,6 +1,7 @@
 // The program's parts: a job file read, a refutation judged, and what is printed.
 pub mod job;
 pub mod judge;
+pub mod print;
 pub mod put;
 pub mod text;
 
