@@ -1,0 +1,46 @@
+//! Makes requests of each kind from a seed.
+
+mod bare;
+mod broken;
+mod cases;
+mod damage;
+mod jobs;
+mod limits;
+mod problems;
+mod refute;
+pub mod shapes;
+mod witnesses;
+
+use crate::random::Random;
+use crate::requests::Request;
+
+pub use bare::unsatisfiable;
+pub use broken::streams;
+pub use cases::{counts, T};
+pub use damage::{damaged, Of};
+pub use jobs::job_files;
+pub use limits::all_limits;
+
+/// The requests of a kind. COUNT counts requests for `cnf`, problems for `problem`, `witness`
+/// and `refute`, rounds for `limits` and `cases`.
+pub fn requests(seed: u64, kind: &str, count: usize) -> Option<Vec<Request>> {
+    let mut random = Random::new(seed);
+    let random = &mut random;
+    match kind {
+        "cnf" => Some(bare::requests(random, count)),
+        "problem" => Some(problems::requests(random, count)),
+        "limits" => Some(limits::requests(random, count)),
+        "witness" => Some(witnesses::requests(random, count)),
+        "cases" => Some(cases::requests(random, count)),
+        "refute" => Some(refute::requests(random, count)),
+        _ => None,
+    }
+}
+
+/// The bytes of the requests of a kind; for `broken`, COUNT is the number of one stream.
+pub fn make(seed: u64, kind: &str, count: usize) -> Option<Vec<u8>> {
+    if kind == "broken" {
+        return Some(broken::stream(&mut Random::new(seed), count));
+    }
+    Some(requests(seed, kind, count)?.iter().flat_map(Request::bytes).collect())
+}

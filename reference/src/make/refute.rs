@@ -1,0 +1,63 @@
+//! Requests of kind `refute`: call 5 with refutations of problems that have no witness.
+
+use super::bare::{size, step_count};
+use super::damage::{damaged, Of};
+use super::shapes::small;
+use crate::problem::check;
+use crate::random::Random;
+use crate::requests::Request;
+use crate::splitting::{refute, words, Step};
+use crate::{cnf, witness};
+
+struct Subject {
+    problem: Vec<u32>,
+    variables: usize,
+    clauses: usize,
+    room: usize,
+    steps: Vec<Step>,
+}
+
+/// A small problem without a witness and a refutation of its CNF.
+fn subject(random: &mut Random) -> Subject {
+    loop {
+        let problem = small(random, 6);
+        let read = check(1, &problem).expect("made well formed");
+        if !witness::all(&read).is_empty() {
+            continue;
+        }
+        let cnf = cnf::words(&read);
+        let clauses = cnf::clauses(&cnf);
+        if let Some(steps) = refute(random, &clauses, 200) {
+            let (variables, clauses) = (cnf::variables(&read), clauses.len());
+            return Subject { problem, variables, clauses, room: cnf.len(), steps };
+        }
+    }
+}
+
+fn request(random: &mut Random, subject: &Subject, refutation: Vec<i32>, whole: bool) -> Request {
+    let mut sized = |needed: usize| if whole { needed as u32 } else { size(random, needed) };
+    Request::Refutation {
+        version: 1,
+        problem: subject.problem.clone(),
+        room: sized(subject.room),
+        by_numbers: sized(subject.variables + 1),
+        by_clauses: sized(subject.clauses + step_count(&refutation)),
+        refutation,
+    }
+}
+
+pub fn requests(random: &mut Random, count: usize) -> Vec<Request> {
+    let mut out = Vec::new();
+    for _ in 0..count {
+        let subject = subject(random);
+        let of = Of { variables: subject.variables as i32, clauses: subject.clauses };
+        let good = words(&subject.steps);
+        out.push(request(random, &subject, good.clone(), true));
+        out.push(request(random, &subject, good, false));
+        for _ in 0..8 {
+            let refutation = damaged(random, of, &subject.steps);
+            out.push(request(random, &subject, refutation, false));
+        }
+    }
+    out
+}

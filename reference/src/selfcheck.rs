@@ -1,0 +1,147 @@
+//! Checks of this program on itself: the document's figures, and the CNF against the meaning.
+
+use crate::make::{self, shapes};
+use crate::problem::{check, Answer, Problem};
+use crate::random::Random;
+use crate::requests::{self, judge_problem_refutation};
+use crate::{cnf, job, models, refutation, splitting, witness};
+
+const T_TEXT: &str = "p cnf 6 12\n1 0\n-2 0\n-3 -2 -2 0\n-3 2 2 0\n-4 2 0\n4 -2 0\n-5 4 0\n5 -4 0\n\
+                      -3 -6 5 0\n-3 6 -5 0\n-6 3 0\n4 0\n";
+
+struct Tally {
+    passed: usize,
+    failed: usize,
+}
+
+impl Tally {
+    fn expect(&mut self, holds: bool, what: impl FnOnce() -> String) {
+        if holds {
+            self.passed += 1;
+        } else {
+            self.failed += 1;
+            println!("failed: {}", what());
+        }
+    }
+}
+
+/// The witness that a model of the problem's CNF stands for.
+fn witness_of(problem: &Problem, model: &[bool]) -> Vec<u8> {
+    let start = (0..=problem.k).find(|&l| model[cnf::selector(problem, l)]);
+    let bit = |v: usize, t: usize| u8::from(model[cnf::circuit_variable(problem, v, t)]);
+    let mut bytes = vec![start.map_or(0, |l| l as u8 + 1)];
+    bytes.extend((0..problem.latches.len()).map(|latch| bit(problem.inputs + 1 + latch, 0)));
+    for t in 0..=problem.k {
+        bytes.extend((1..=problem.inputs).map(|input| bit(input, t)));
+    }
+    bytes
+}
+
+/// The models stand for the witnesses, each for one and each witness for one.
+fn models_are_witnesses(tally: &mut Tally, words: &[u32]) -> usize {
+    let problem = check(1, words).expect("made well formed");
+    let cnf = cnf::words(&problem);
+    let models = models::all(cnf::variables(&problem), &cnf::clauses(&cnf));
+    let mut read: Vec<Vec<u8>> = models.iter().map(|model| witness_of(&problem, model)).collect();
+    read.sort();
+    let witnesses = witness::all(&problem);
+    tally.expect(read == witnesses, || {
+        format!("{words:?}: {} models, {} witnesses", read.len(), witnesses.len())
+    });
+    witnesses.len()
+}
+
+fn figures(tally: &mut Tally) {
+    let text = job::text(&job::file(&make::T));
+    tally.expect(text == T_TEXT, || format!("the text of T is {text}"));
+    for (words, count) in make::counts() {
+        let found = models_are_witnesses(tally, &words);
+        tally.expect(found == count, || format!("{words:?}: {found} witnesses, not {count}"));
+    }
+    let largest = check(1, &make::all_limits()).expect("all limits are allowed");
+    let length = cnf::words(&largest).len();
+    tally.expect(length == 437_012, || format!("the largest CNF has {length} words"));
+    let cases: [(&[i32], u32, usize); 3] = [(&[0, 2, 12, 5, 0], 0, 0), (&[0, 12, 5, 0], 13, 0), (&[], 14, 0)];
+    for (refutation, number, place) in cases {
+        let (mut room, mut first, mut second) = (vec![7; 40], vec![7; 8], vec![7; 14]);
+        let answer = judge_problem_refutation(1, &make::T, refutation, &mut room, &mut first, &mut second);
+        let right = answer == Answer { number, place };
+        tally.expect(right, || format!("T and {refutation:?}: {answer:?}"));
+        let clear = first[..7].iter().all(|&word| word == 0) && first[7] == 7;
+        tally.expect(clear, || format!("T and {refutation:?}: area {first:?}"));
+    }
+}
+
+fn judge(variables: usize, clauses: &[&[i32]], words: &[i32]) -> u32 {
+    let (mut first, mut second) = (vec![0; variables + 1], vec![0; clauses.len() + words.len()]);
+    refutation::judge(variables, clauses, words, &mut first, &mut second).number
+}
+
+/// Refutations by splitting are accepted; damaged ones never where a model is left.
+fn refutations(tally: &mut Tally, random: &mut Random) {
+    let (variables, mut clauses) = make::unsatisfiable(random);
+    let parts: Vec<&[i32]> = clauses.iter().map(Vec::as_slice).collect();
+    let steps = splitting::refute(random, &parts, 200).expect("it has no model");
+    let accepted = judge(variables, &parts, &splitting::words(&steps));
+    tally.expect(accepted == 0, || format!("{parts:?}: {steps:?} got {accepted}"));
+    clauses.remove(random.below(clauses.len()));
+    let parts: Vec<&[i32]> = clauses.iter().map(Vec::as_slice).collect();
+    let mut models = models::all(variables, &parts);
+    models.sort();
+    let tried = models::all_by_trying(variables, &parts);
+    tally.expect(models == tried, || format!("{parts:?}: models differ"));
+    let of = make::Of { variables: variables as i32, clauses: parts.len() };
+    for _ in 0..20 {
+        let words = make::damaged(random, of, &steps);
+        let sound = judge(variables, &parts, &words) != 0 || models.is_empty();
+        tally.expect(sound, || format!("{parts:?}: {words:?} is accepted"));
+    }
+}
+
+/// The answers that each call can give.
+const ANSWERS: [&[u32]; 5] = [
+    &[0, 1, 2, 3, 4, 5, 15],
+    &[0, 1, 2, 3, 4, 5, 6, 15],
+    &[0, 1, 2, 3, 4, 5, 7, 8, 9, 10, 15],
+    &[0, 11, 12, 13, 14, 16],
+    &[0, 1, 2, 3, 4, 5, 6, 11, 12, 13, 14, 15],
+];
+
+/// The requests made from the seed lead each call to each of its answers, and to no other.
+fn requests_reach_all(tally: &mut Tally, seed: u64) {
+    let mut made = Vec::new();
+    for (kind, count) in [("cnf", 3_000), ("problem", 1_000), ("witness", 20), ("refute", 20)] {
+        made.extend(make::requests(seed, kind, count).expect("a kind"));
+    }
+    let times = requests::tally(&made);
+    for call in 1..=5 {
+        let found: Vec<u32> = times.keys().filter(|key| key.0 == call).map(|key| key.1).collect();
+        let wanted = ANSWERS[call as usize - 1];
+        tally.expect(found == wanted, || format!("call {call} has the answers {found:?}"));
+    }
+}
+
+/// Prints `N passed, M failed`; whether nothing failed.
+pub fn run(seed: u64) -> bool {
+    let mut tally = Tally { passed: 0, failed: 0 };
+    figures(&mut tally);
+    let mut random = Random::new(seed);
+    let mut with_witness = 0;
+    let problems = 20_000;
+    for _ in 0..problems {
+        let looping = random.one_in(2);
+        let words = if looping { shapes::looping(&mut random) } else { shapes::small(&mut random, 8) };
+        if models_are_witnesses(&mut tally, &words) > 0 {
+            with_witness += 1;
+        }
+    }
+    // A generator that only ever makes one sort of problem would test little.
+    let mixed = with_witness > problems / 10 && with_witness < problems - problems / 10;
+    tally.expect(mixed, || format!("{with_witness} of {problems} problems have a witness"));
+    for _ in 0..2_000 {
+        refutations(&mut tally, &mut random);
+    }
+    requests_reach_all(&mut tally, seed);
+    println!("{} passed, {} failed", tally.passed, tally.failed);
+    tally.failed == 0
+}
