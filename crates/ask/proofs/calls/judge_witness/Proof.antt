@@ -1,0 +1,94 @@
+-- `ask::calls::judge_witness` is safe and ends: the words and bytes that were read lie within their buffers. Assumes nothing.
+use Prim.Native.Nat.{_≤_}
+use native.Mathlib.Omega.{arith}
+use borrow.Author.Needs.{needs}
+use Rattle.ask.proofs.Counted.{counted}
+use Rattle.ask.proofs.calls.judge_witness.Statement.{statement}
+use Rattle.ask.proofs.calls.judge_witness.Tie as tie
+
+next-words-requires : tie.Need-next-words-requires
+next-words-requires c κs = search needs
+
+enum-known-n : tie.Need-enum-known-n
+enum-known-n c = search needs
+
+enum-known-fault : tie.Need-enum-known-fault
+enum-known-fault c = search needs
+
+returns : tie.Need-returns
+returns c = search needs
+
+next-witness-requires : tie.Need-next-witness-requires
+next-witness-requires c κs = search needs
+
+enum-known-n-2 : tie.Need-enum-known-n-2
+enum-known-n-2 c = search needs
+
+enum-known-fault-2 : tie.Need-enum-known-fault-2
+enum-known-fault-2 c = search needs
+
+returns-2 : tie.Need-returns-2
+returns-2 c = search needs
+
+sub-judge : tie.Need-sub-judge
+sub-judge c = search needs
+
+part-judge-start : tie.Need-part-judge-start
+part-judge-start c = search needs
+
+words-within : (t : tie.After-known-told) → t .before .n .given .0 .0 ≤ 4096
+words-within t = counted (t .before .n .given .1) (t .before .before .before .next-words .ensures)
+
+bytes-within : (t : tie.After-known-told3) → t .before .n2 .given .0 .0 ≤ 8192
+bytes-within t = counted (t .before .n2 .given .1) (t .before .before .before .next-witness .ensures)
+
+-- Where the problem is known, by where the witness is.
+abbrev first : tie.After-known-told3 → tie.After-known-told
+first t = t .before .before .before .before .before
+
+part-judge-end : tie.Need-part-judge-end
+part-judge-end c = omega (arith, words-within (first (c .before .before .before .before)))
+
+sub-judge-2 : tie.Need-sub-judge-2
+sub-judge-2 c = search needs
+
+part-judge-start-2 : tie.Need-part-judge-start-2
+part-judge-start-2 c = search needs
+
+part-judge-end-2 : tie.Need-part-judge-end-2
+part-judge-end-2 c = omega (arith, bytes-within (c .before .before .before .before .before))
+
+judge-requires : tie.Need-judge-requires
+judge-requires c κs = search needs
+
+witnessed-requires : tie.Need-witnessed-requires
+witnessed-requires c κs = search needs
+
+print-answer-requires : tie.Need-print-answer-requires
+print-answer-requires c κs = search needs
+
+returns-3 : tie.Need-returns-3
+returns-3 c = search needs
+
+pub judge-witness-spec : {M : Type 1} → statement M
+judge-witness-spec =
+    tie.close
+    (tie.spec
+    next-words-requires
+    enum-known-n
+    enum-known-fault
+    returns
+    next-witness-requires
+    enum-known-n-2
+    enum-known-fault-2
+    returns-2
+    sub-judge
+    part-judge-start
+    part-judge-end
+    sub-judge-2
+    part-judge-start-2
+    part-judge-end-2
+    judge-requires
+    witnessed-requires
+    print-answer-requires
+    returns-3)

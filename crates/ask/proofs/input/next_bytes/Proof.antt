@@ -1,0 +1,47 @@
+-- `ask::input::next_bytes` meets its contract: a count that was read is within the most, whose bytes fit. Assumes nothing.
+use Prim.Native.Nat.{_≤_}
+use native.Mathlib.Omega.{arith}
+use borrow.Author.Needs.{needs}
+use Rattle.ask.proofs.Counted.{counted}
+use Rattle.ask.proofs.input.next_bytes.Statement.{statement}
+use Rattle.ask.proofs.input.next_bytes.Tie as tie
+
+next-count-requires : tie.Need-next-count-requires
+next-count-requires c κs = search needs
+
+enum-known-got : tie.Need-enum-known-got
+enum-known-got c = search needs
+
+within : (t : tie.After-known-told) → t .before .got .given .0 .0 ≤ t .before .before .before .before .args .most
+within t = counted (t .before .got .given .1) (t .before .before .before .next-count .ensures)
+
+mul-fills : tie.Need-mul-fills
+mul-fills c = omega (arith, within (c .before))
+
+fills-requires : tie.Need-fills-requires
+fills-requires c κs = omega (arith, within (c .before))
+
+returns : tie.Need-returns
+returns c = search needs
+
+enum-told : tie.Need-enum-told
+enum-told c = search needs
+
+returns-2 : tie.Need-returns-2
+returns-2 c = within (c .before .before .before)
+
+returns-3 : tie.Need-returns-3
+returns-3 c = search needs
+
+pub next-bytes-spec : {M : Type 1} → statement M
+next-bytes-spec =
+    tie.close
+    (tie.spec
+    next-count-requires
+    enum-known-got
+    mul-fills
+    fills-requires
+    returns
+    enum-told
+    returns-2
+    returns-3)

@@ -1,0 +1,171 @@
+// The numbers and buffers of a request, read from standard input. All numbers are big-endian.
+use libc::STDIN_FILENO;
+ghost use Prim.Native.Nat.{_+_, _*_, _≤_};
+ghost use lib.ListN.{length};
+ghost use Rattle.ask.specs.Held.{Held};
+
+// The most items that a buffer of a request may have.
+pub const PROBLEM_WORDS: usize = 4096;
+
+pub const WITNESS_BYTES: usize = 8192;
+
+pub const CNF_WORDS: usize = 65536;
+
+pub const REFUTATION_WORDS: usize = 65536;
+
+pub const AREA_WORDS: usize = 66000;
+
+// The bytes of the longest buffer of words.
+pub const LARGEST: usize = 4 * CNF_WORDS;
+
+// Why a request is not answered.
+pub enum Fault {
+    TooLong,
+    CutShort,
+}
+
+// The byte that opens a request, if there is another.
+pub enum Asked {
+    Call(u8),
+    End,
+}
+
+pub enum Number {
+    Value(u32),
+    Missing,
+}
+
+// How many items a buffer has, or why it was not read.
+pub enum Got {
+    Items(usize),
+    Broken(Fault),
+}
+
+// Whether there are so many bytes; they go to the start of the buffer. A part `0..size` asks only that it fits, `..size` more.
+fn fills(bytes: &mut [u8], size: usize) -> bool
+    requires { ⌜ size ≤ length (now bytes) ⌝ }
+{
+    io::read_full(STDIN_FILENO, &mut bytes[0..size]) == size
+}
+
+fn wide(byte: u8) -> u32 {
+    byte as u32
+}
+
+fn number_at(bytes: &[u8], at: usize) -> u32
+    requires { ⌜ at + 4 ≤ length (now bytes) ⌝ }
+{
+    wide(bytes[at]) << 24
+        | wide(bytes[at + 1]) << 16
+        | wide(bytes[at + 2]) << 8
+        | wide(bytes[at + 3])
+}
+
+pub fn next_call() -> Asked {
+    let mut byte = [0u8; 1];
+    if fills(&mut byte, 1) {
+        Asked::Call(byte[0])
+    } else {
+        Asked::End
+    }
+}
+
+pub fn next_number() -> Number {
+    let mut bytes = [0u8; 4];
+    if fills(&mut bytes, 4) {
+        Number::Value(number_at(&bytes, 0))
+    } else {
+        Number::Missing
+    }
+}
+
+// The count of a buffer that holds `most` items.
+pub fn next_count(most: usize) -> Got
+    ensures { λ r. ⌜ Held r most ⌝ }
+{
+    let Number::Value(number) = next_number() else {
+        return Got::Broken(Fault::CutShort);
+    };
+    let count = number as usize;
+    if most < count {
+        return Got::Broken(Fault::TooLong);
+    }
+    Got::Items(count)
+}
+
+fn decode(bytes: &[u8], count: usize, words: &mut [u32])
+    requires { ⌜ (4 * count ≤ length (now bytes)) × (count ≤ length (now words)) ⌝ }
+{
+    let mut i = 0;
+    while i < count {
+        words[i] = number_at(bytes, 4 * i);
+        i += 1;
+    }
+}
+
+// Two's complement; no cast loses a bit.
+fn signed(word: u32) -> i32 {
+    if word <= 2147483647 {
+        word as i32
+    } else {
+        !((4294967295 - word) as i32)
+    }
+}
+
+fn decode_signed(bytes: &[u8], count: usize, words: &mut [i32])
+    requires { ⌜ (4 * count ≤ length (now bytes)) × (count ≤ length (now words)) ⌝ }
+{
+    let mut i = 0;
+    while i < count {
+        words[i] = signed(number_at(bytes, 4 * i));
+        i += 1;
+    }
+}
+
+// The count of a buffer of words, with the words' bytes read too.
+fn next_bytes(bytes: &mut [u8; LARGEST], most: usize) -> Got
+    requires { ⌜ most ≤ 65536 ⌝ }
+    ensures { λ r. ⌜ Held r most ⌝ }
+{
+    let got = next_count(most);
+    if let Got::Items(count) = got {
+        if !fills(bytes, 4 * count) {
+            return Got::Broken(Fault::CutShort);
+        }
+    }
+    got
+}
+
+pub fn next_words(bytes: &mut [u8; LARGEST], words: &mut [u32; PROBLEM_WORDS]) -> Got
+    ensures { λ r. ⌜ Held r 4096 ⌝ }
+{
+    let got = next_bytes(bytes, PROBLEM_WORDS);
+    if let Got::Items(count) = got {
+        decode(bytes, count, words);
+    }
+    got
+}
+
+// CNF words and refutation words are as many at most.
+pub fn next_signed(bytes: &mut [u8; LARGEST], words: &mut [i32; CNF_WORDS]) -> Got
+    ensures { λ r. ⌜ Held r 65536 ⌝ }
+{
+    let got = next_bytes(bytes, CNF_WORDS);
+    if let Got::Items(count) = got {
+        decode_signed(bytes, count, words);
+    }
+    got
+}
+
+// A witness is read straight into its buffer.
+pub fn next_witness(witness: &mut [u8; WITNESS_BYTES]) -> Got
+    ensures { λ r. ⌜ Held r 8192 ⌝ }
+{
+    let got = next_count(WITNESS_BYTES);
+    if let Got::Items(count) = got {
+        if !fills(witness, count) {
+            return Got::Broken(Fault::CutShort);
+        }
+    }
+    got
+}

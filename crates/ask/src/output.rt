@@ -1,0 +1,157 @@
+// Lines of text, gathered in a lent buffer. A place is where the next byte goes; a buffer that is full is written out at once.
+use crate::answers::Answer;
+use crate::input::Fault;
+use libc::STDOUT_FILENO;
+ghost use Prim.Native.Nat.{_<_};
+
+const OUT: usize = 4096;
+
+// A write that fails is left so: no later answer could tell of it.
+fn put_byte(byte: u8, at: usize, out: &mut [u8; OUT]) -> usize
+    requires { ⌜ at < 4096 ⌝ }
+    ensures { λ r. ⌜ r < 4096 ⌝ }
+{
+    out[at] = byte;
+    if at < OUT - 1 {
+        return at + 1;
+    }
+    io::write_all(STDOUT_FILENO, out);
+    0
+}
+
+fn put_bytes(text: &[u8], at: usize, out: &mut [u8; OUT]) -> usize
+    requires { ⌜ at < 4096 ⌝ }
+    ensures { λ r. ⌜ r < 4096 ⌝ }
+{
+    let mut next = at;
+    let mut i = 0;
+    while i < text.len() {
+        next = put_byte(text[i], next, out);
+        i += 1;
+    }
+    next
+}
+
+fn put_number(n: u64, at: usize, out: &mut [u8; OUT]) -> usize
+    requires { ⌜ at < 4096 ⌝ }
+    ensures { λ r. ⌜ r < 4096 ⌝ }
+{
+    let mut digits = [0u8; 20];
+    let size = io::decimal(n, &mut digits);
+    put_bytes(&digits[..size], at, out)
+}
+
+// The line that opens an answer.
+fn put_answer(answer: Answer, at: usize, out: &mut [u8; OUT]) -> usize
+    requires { ⌜ at < 4096 ⌝ }
+    ensures { λ r. ⌜ r < 4096 ⌝ }
+{
+    let numbered = put_number(answer.number as u64, at, out);
+    let parted = put_byte(b' ', numbered, out);
+    let placed = put_number(answer.place as u64, parted, out);
+    put_byte(b'\n', placed, out)
+}
+
+// A line with the words of a work area.
+fn put_area(area: &[u64], at: usize, out: &mut [u8; OUT]) -> usize
+    requires { ⌜ at < 4096 ⌝ }
+    ensures { λ r. ⌜ r < 4096 ⌝ }
+{
+    let mut next = at;
+    let mut i = 0;
+    while i < area.len() {
+        if 0 < i {
+            next = put_byte(b' ', next, out);
+        }
+        next = put_number(area[i], next, out);
+        i += 1;
+    }
+    put_byte(b'\n', next, out)
+}
+
+// A word without its sign. The negation of the least i32 fits an i64.
+fn magnitude(w: i32) -> u64 {
+    if w < 0 {
+        (-(w as i64)) as u64
+    } else {
+        w as u64
+    }
+}
+
+fn put_word(w: i32, at: usize, out: &mut [u8; OUT]) -> usize
+    requires { ⌜ at < 4096 ⌝ }
+    ensures { λ r. ⌜ r < 4096 ⌝ }
+{
+    if w < 0 {
+        let signed = put_byte(b'-', at, out);
+        return put_number(magnitude(w), signed, out);
+    }
+    put_number(magnitude(w), at, out)
+}
+
+// A line with the words of a CNF room.
+fn put_room(room: &[i32], at: usize, out: &mut [u8; OUT]) -> usize
+    requires { ⌜ at < 4096 ⌝ }
+    ensures { λ r. ⌜ r < 4096 ⌝ }
+{
+    let mut next = at;
+    let mut i = 0;
+    while i < room.len() {
+        if 0 < i {
+            next = put_byte(b' ', next, out);
+        }
+        next = put_word(room[i], next, out);
+        i += 1;
+    }
+    put_byte(b'\n', next, out)
+}
+
+// Writes out what was gathered.
+fn finish(at: usize, out: &[u8; OUT])
+    requires { ⌜ at < 4096 ⌝ }
+{
+    let all: &[u8] = out;
+    io::write_all(STDOUT_FILENO, &all[0..at]);
+}
+
+// An answer that has no buffers.
+pub fn print_answer(answer: Answer) {
+    let mut out = [0u8; OUT];
+    let at = put_answer(answer, 0, &mut out);
+    finish(at, &out);
+}
+
+// An answer and the CNF room.
+pub fn print_room(answer: Answer, room: &[i32]) {
+    let mut out = [0u8; OUT];
+    let answered = put_answer(answer, 0, &mut out);
+    let at = put_room(room, answered, &mut out);
+    finish(at, &out);
+}
+
+// An answer and both work areas.
+pub fn print_areas(answer: Answer, by_numbers: &[u64], by_clauses: &[u64]) {
+    let mut out = [0u8; OUT];
+    let answered = put_answer(answer, 0, &mut out);
+    let numbers = put_area(by_numbers, answered, &mut out);
+    let clauses = put_area(by_clauses, numbers, &mut out);
+    finish(clauses, &out);
+}
+
+// An answer, the CNF room and both work areas.
+pub fn print_all(answer: Answer, room: &[i32], by_numbers: &[u64], by_clauses: &[u64]) {
+    let mut out = [0u8; OUT];
+    let answered = put_answer(answer, 0, &mut out);
+    let words = put_room(room, answered, &mut out);
+    let numbers = put_area(by_numbers, words, &mut out);
+    let clauses = put_area(by_clauses, numbers, &mut out);
+    finish(clauses, &out);
+}
+
+pub fn print_fault(fault: Fault) {
+    match fault {
+        Fault::TooLong => io::write_all(STDOUT_FILENO, b"too long\n"),
+        Fault::CutShort => io::write_all(STDOUT_FILENO, b"cut short\n"),
+    }
+    ;
+}
