@@ -10,3 +10,4 @@ pub mod RefutedUnique
 pub mod LazyProblem
 pub mod Unique
 pub mod JobText
+pub mod LazyText

@@ -5,7 +5,7 @@ use mathlib.Core.List.{List, [], _∷_, _++_, append-nil}
 use Prim.Native.Nat.{ℕ, _+_, _-_, _*_, _/_, _%_, _^_, _≤_, _<_, min}
 use native.Mathlib.Numerals.{add-one}
 use native.Mathlib.Omega.{arith}
-use borrow.Author.Tests.{ltb-true, le-leb, lt-leb}
+use borrow.Author.Tests.{ltb-true, leb-false, le-leb, lt-leb}
 use lib.Dec.{leb}
 use lib.IntN.{ℤ, pos, negsuc}
 use lib.Signed.{ltZ}
@@ -146,7 +146,7 @@ prints-bytes {text} {out} {n} {out′} h a =
     let whole : n ≡ length text = omega (arith, a .after) in
     record { answered = rw fits (ap Bytes whole); left = rw fits (a .held) }
 
--- The bytes that were written lie within the buffer.
+-- The bytes that were written are those of the text, and lie within the buffer.
 abbrev count-of : Printed → ℕ
 count-of (Bytes n) = n
 count-of (Short n) = n
@@ -155,12 +155,25 @@ abbrev was-written : Printed → Bool
 was-written (Bytes n) = true
 was-written (Short n) = false
 
-pub bytes-within : {text out : List ℕ} {n : ℕ} {out′ : List ℕ} → Prints text out (Bytes n) out′ → n ≤ length out′
-bytes-within {text} {out} {n} {out′} p = go (leb (length text) (length out)) (p .answered) (p .left)
+pub written-whole : {text out : List ℕ} {n : ℕ} {out′ : List ℕ} → Prints text out (Bytes n) out′ → (n ≡ length text) × (out′ ≡ written text out)
+written-whole {text} {out} {n} {out′} p = go (leb (length text) (length out)) (p .answered) (p .left)
   where
-    go : (b : Bool) → Bytes n ≡ cond b (Bytes (length text)) (Short (size text)) → out′ ≡ cond b (written text out) out → n ≤ length out′
-    go true e f = omega (arith, ap count-of e, ap length f, length-append text (drop (length text) out))
+    go : (b : Bool) → Bytes n ≡ cond b (Bytes (length text)) (Short (size text)) → out′ ≡ cond b (written text out) out
+        → (n ≡ length text) × (out′ ≡ written text out)
+    go true e f = (ap count-of e, f)
     go false e f = absurd (true≢false (ap was-written e))
+
+pub bytes-within : {text out : List ℕ} {n : ℕ} {out′ : List ℕ} → Prints text out (Bytes n) out′ → n ≤ length out′
+bytes-within {text} {out} {n} {out′} p =
+    let whole = written-whole p in
+    omega (arith, whole .0, ap length (whole .1), length-append text (drop (length text) out))
+
+pub short-without-room : {text out : List ℕ} {n : ℕ} {out′ : List ℕ} → Prints text out (Short n) out′ → length out < length text
+short-without-room {text} {out} {n} {out′} p = go (leb (length text) (length out)) refl (p .answered)
+  where
+    go : (b : Bool) → leb (length text) (length out) ≡ b → Short n ≡ cond b (Bytes (length text)) (Short (size text)) → length out < length text
+    go true l e = absurd (true≢false (sym (ap was-written e)))
+    go false l e = leb-false (length text) (length out) l
 
 pub size-of-flat : (v c : ℕ) (ws : List ℤ) {h w n : ℕ} → h ≡ length (header-line v c) → w ≡ size (words-text ws)
     → n ≡ min (h + w) largest-size → n ≡ size (flat-text v c ws)
