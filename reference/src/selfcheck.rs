@@ -110,7 +110,7 @@ const ANSWERS: [&[u32]; 5] = [
 /// The requests made from the seed lead each call to each of its answers, and to no other.
 fn requests_reach_all(tally: &mut Tally, seed: u64) {
     let mut made = Vec::new();
-    for (kind, count) in [("cnf", 3_000), ("problem", 1_000), ("witness", 20), ("refute", 20)] {
+    for (kind, count) in [("cnf", 250), ("problem", 1_000), ("witness", 20), ("refute", 20)] {
         made.extend(make::requests(seed, kind, count).expect("a kind"));
     }
     let times = requests::tally(&made);

@@ -185,9 +185,8 @@ fn corners(out: &mut Vec<Request>) {
 pub fn requests(random: &mut Random, count: usize) -> Vec<Request> {
     let mut out = Vec::new();
     corners(&mut out);
-    while out.len() < count {
+    for _ in 0..count {
         subject(random, &mut out);
     }
-    out.truncate(count);
     out
 }

@@ -21,8 +21,8 @@ pub use damage::{damaged, Of};
 pub use jobs::job_files;
 pub use limits::all_limits;
 
-/// The requests of a kind. COUNT counts requests for `cnf`, problems for `problem`, `witness`
-/// and `refute`, rounds for `limits` and `cases`.
+/// The requests of a kind. COUNT counts CNFs for `cnf`, problems for `problem`, `witness` and
+/// `refute`, rounds for `limits` and `cases`.
 pub fn requests(seed: u64, kind: &str, count: usize) -> Option<Vec<Request>> {
     let mut random = Random::new(seed);
     let random = &mut random;
