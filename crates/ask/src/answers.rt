@@ -33,7 +33,7 @@ fn refused(refusal: Refusal) -> Answer
     }
 }
 
-pub fn checked(outcome: Checked) -> Answer
+pub(crate) fn checked(outcome: Checked) -> Answer
     ensures { λ r. ⌜ answer (r .number) (r .place) ≡ checked-answer outcome ⌝ }
 {
     match outcome {
@@ -45,7 +45,7 @@ pub fn checked(outcome: Checked) -> Answer
     }
 }
 
-pub fn encoded(outcome: Encoded) -> Answer
+pub(crate) fn encoded(outcome: Encoded) -> Answer
     ensures { λ r. ⌜ answer (r .number) (r .place) ≡ encoded-answer outcome ⌝ }
 {
     match outcome {
@@ -55,7 +55,7 @@ pub fn encoded(outcome: Encoded) -> Answer
     }
 }
 
-pub fn witnessed(judgement: witness::Judgement) -> Answer
+pub(crate) fn witnessed(judgement: witness::Judgement) -> Answer
     ensures { λ r. ⌜ answer (r .number) (r .place) ≡ witnessed-answer judgement ⌝ }
 {
     match judgement {
@@ -74,7 +74,7 @@ pub fn witnessed(judgement: witness::Judgement) -> Answer
     }
 }
 
-pub fn judged(judgement: Judgement) -> Answer
+pub(crate) fn judged(judgement: Judgement) -> Answer
     ensures { λ r. ⌜ answer (r .number) (r .place) ≡ judged-answer judgement ⌝ }
 {
     match judgement {
@@ -90,7 +90,7 @@ pub fn judged(judgement: Judgement) -> Answer
     }
 }
 
-pub fn refuted(outcome: Refuted) -> Answer
+pub(crate) fn refuted(outcome: Refuted) -> Answer
     ensures { λ r. ⌜ answer (r .number) (r .place) ≡ refuted-answer outcome ⌝ }
 {
     match outcome {

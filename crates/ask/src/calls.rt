@@ -45,7 +45,7 @@ fn fill_room(room: &mut [i32]) {
 }
 
 // Call 1.
-pub fn check(
+pub(crate) fn check(
     version: u32,
     bytes: &mut [u8; LARGEST],
     problem: &mut [u32; PROBLEM_WORDS],
@@ -76,7 +76,7 @@ fn write_room(version: u32, problem: &[u32], room: &mut [i32]) -> Outcome {
 }
 
 // Call 2.
-pub fn write_cnf(
+pub(crate) fn write_cnf(
     version: u32,
     bytes: &mut [u8; LARGEST],
     problem: &mut [u32; PROBLEM_WORDS],
@@ -91,7 +91,7 @@ pub fn write_cnf(
 }
 
 // Call 3.
-pub fn judge_witness(
+pub(crate) fn judge_witness(
     version: u32,
     bytes: &mut [u8; LARGEST],
     problem: &mut [u32; PROBLEM_WORDS],
@@ -152,7 +152,7 @@ fn judge_areas<'a>(
 }
 
 // Call 4.
-pub fn judge_bare(
+pub(crate) fn judge_bare(
     variables: u32,
     bytes: &mut [u8; LARGEST],
     cnf: &mut [i32; CNF_WORDS],
@@ -234,7 +234,7 @@ fn refute_within(
 }
 
 // Call 5.
-pub fn judge_refutation(
+pub(crate) fn judge_refutation(
     version: u32,
     bytes: &mut [u8; LARGEST],
     problem: &mut [u32; PROBLEM_WORDS],

@@ -61,7 +61,7 @@ fn number_at(bytes: &[u8], at: usize) -> u32
         | wide(bytes[at + 3])
 }
 
-pub fn next_call() -> Asked {
+pub(crate) fn next_call() -> Asked {
     let mut byte = [0u8; 1];
     if fills(&mut byte, 1) {
         Asked::Call(byte[0])
@@ -70,7 +70,7 @@ pub fn next_call() -> Asked {
     }
 }
 
-pub fn next_number() -> Number {
+pub(crate) fn next_number() -> Number {
     let mut bytes = [0u8; 4];
     if fills(&mut bytes, 4) {
         Number::Value(number_at(&bytes, 0))
@@ -80,7 +80,7 @@ pub fn next_number() -> Number {
 }
 
 // The count of a buffer that holds `most` items.
-pub fn next_count(most: usize) -> Got
+pub(crate) fn next_count(most: usize) -> Got
     ensures { λ r. ⌜ Held r most ⌝ }
 {
     let Number::Value(number) = next_number() else {
@@ -136,7 +136,7 @@ fn next_bytes(bytes: &mut [u8; LARGEST], most: usize) -> Got
     got
 }
 
-pub fn next_words(bytes: &mut [u8; LARGEST], words: &mut [u32; PROBLEM_WORDS]) -> Got
+pub(crate) fn next_words(bytes: &mut [u8; LARGEST], words: &mut [u32; PROBLEM_WORDS]) -> Got
     ensures { λ r. ⌜ Held r 4096 ⌝ }
 {
     let got = next_bytes(bytes, PROBLEM_WORDS);
@@ -147,7 +147,7 @@ pub fn next_words(bytes: &mut [u8; LARGEST], words: &mut [u32; PROBLEM_WORDS]) -
 }
 
 // CNF words and refutation words are as many at most.
-pub fn next_signed(bytes: &mut [u8; LARGEST], words: &mut [i32; CNF_WORDS]) -> Got
+pub(crate) fn next_signed(bytes: &mut [u8; LARGEST], words: &mut [i32; CNF_WORDS]) -> Got
     ensures { λ r. ⌜ Held r 65536 ⌝ }
 {
     let got = next_bytes(bytes, CNF_WORDS);
@@ -158,7 +158,7 @@ pub fn next_signed(bytes: &mut [u8; LARGEST], words: &mut [i32; CNF_WORDS]) -> G
 }
 
 // A witness is read straight into its buffer.
-pub fn next_witness(witness: &mut [u8; WITNESS_BYTES]) -> Got
+pub(crate) fn next_witness(witness: &mut [u8; WITNESS_BYTES]) -> Got
     ensures { λ r. ⌜ Held r 8192 ⌝ }
 {
     let got = next_count(WITNESS_BYTES);

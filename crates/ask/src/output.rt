@@ -115,14 +115,14 @@ fn finish(at: usize, out: &[u8; OUT])
 }
 
 // An answer that has no buffers.
-pub fn print_answer(answer: Answer) {
+pub(crate) fn print_answer(answer: Answer) {
     let mut out = [0u8; OUT];
     let at = put_answer(answer, 0, &mut out);
     finish(at, &out);
 }
 
 // An answer and the CNF room.
-pub fn print_room(answer: Answer, room: &[i32]) {
+pub(crate) fn print_room(answer: Answer, room: &[i32]) {
     let mut out = [0u8; OUT];
     let answered = put_answer(answer, 0, &mut out);
     let at = put_room(room, answered, &mut out);
@@ -130,7 +130,7 @@ pub fn print_room(answer: Answer, room: &[i32]) {
 }
 
 // An answer and both work areas.
-pub fn print_areas(answer: Answer, by_numbers: &[u64], by_clauses: &[u64]) {
+pub(crate) fn print_areas(answer: Answer, by_numbers: &[u64], by_clauses: &[u64]) {
     let mut out = [0u8; OUT];
     let answered = put_answer(answer, 0, &mut out);
     let numbers = put_area(by_numbers, answered, &mut out);
@@ -139,7 +139,7 @@ pub fn print_areas(answer: Answer, by_numbers: &[u64], by_clauses: &[u64]) {
 }
 
 // An answer, the CNF room and both work areas.
-pub fn print_all(answer: Answer, room: &[i32], by_numbers: &[u64], by_clauses: &[u64]) {
+pub(crate) fn print_all(answer: Answer, room: &[i32], by_numbers: &[u64], by_clauses: &[u64]) {
     let mut out = [0u8; OUT];
     let answered = put_answer(answer, 0, &mut out);
     let words = put_room(room, answered, &mut out);
@@ -148,7 +148,7 @@ pub fn print_all(answer: Answer, room: &[i32], by_numbers: &[u64], by_clauses: &
     finish(clauses, &out);
 }
 
-pub fn print_fault(fault: Fault) {
+pub(crate) fn print_fault(fault: Fault) {
     match fault {
         Fault::TooLong => io::write_all(STDOUT_FILENO, b"too long\n"),
         Fault::CutShort => io::write_all(STDOUT_FILENO, b"cut short\n"),
