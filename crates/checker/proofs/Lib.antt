@@ -11,3 +11,5 @@ pub mod LazyProblem
 pub mod Unique
 pub mod JobText
 pub mod LazyText
+pub mod CallsMean
+pub mod Demands

@@ -96,7 +96,7 @@ module _ (p : Problem) (proper : Proper p) where
       ∙ both-true (small-pass (variables p) 0 (words-of (cnf p)) (words-small (variables p) (cnf p) (literals-within p proper)))
       (both-true (words-ended (cnf p)) refl))
 
-  judged-as-clauses : (refutation : List ℤ) (m n : ℕ)
+  pub judged-as-clauses : (refutation : List ℤ) (m n : ℕ)
       → judge-cnf (variables p) (cnf-words p) refutation m n ≡ judge-clauses (variables p) (cnf p) refutation m n
   unfolding judge-cnf
   judged-as-clauses refutation m n = first-failing-passed (cnf-checks (variables p) (cnf-words p)) _ cnf-passes ∙ rw cnf-back
