@@ -128,8 +128,7 @@ module _ {version : ℕ} {ws : List ℕ} {n : Counts} (g : CountedAs version ws 
   words-counted : n .words ≡ length (cnf-words (problem ws))
   words-counted = rw (g .numbered) (sym (word-count-is (problem ws)))
 
-  pub few-variables : n .variables ≤ 65535
-  unfolding variables-limit
+  pub few-variables : n .variables ≤ variables-limit
   few-variables = rw variables-counted (variables-fit (problem ws) proper-counted)
 
   pub fewer-clauses : n .clauses ≤ n .words

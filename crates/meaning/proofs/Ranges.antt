@@ -253,6 +253,8 @@ largest-is p proper =
 pub variables-fit : (p : Problem) → Proper p → variables p ≤ variables-limit
 unfolding variables variables-limit inputs-limit latches-limit gates-limit nodes-limit bound-limit
 variables-fit p proper =
-    let circuit : (p .bound + 1) * (W p + 1) ≤ 32 * 1_153 = mul-le-mul {n₂ = 32} {m₂ = 1_153} (omega arith) (omega arith) in
-    let nodes : (length (p .nodes) - 1) * (2 * p .bound + 3) ≤ 63 * 65 = mul-le-mul {n₂ = 63} {m₂ = 65} (omega arith) (omega arith) in
-    omega arith
+    let steps : p .bound + 1 ≤ bound-limit + 1 = omega arith in
+    let width : W p + 1 ≤ inputs-limit + latches-limit + gates-limit + 1 = omega arith in
+    let before-last : length (p .nodes) - 1 ≤ nodes-limit - 1 = omega arith in
+    let each-node : 2 * p .bound + 3 ≤ 2 * bound-limit + 3 = omega arith in
+    omega (arith, mul-le-mul steps width, mul-le-mul before-last each-node)

@@ -2,6 +2,11 @@
 use crate::Checked;
 use crate::Refusal;
 use crate::Sizes;
+use crate::limits::BOUND_LIMIT;
+use crate::limits::GATES_LIMIT;
+use crate::limits::INPUTS_LIMIT;
+use crate::limits::LATCHES_LIMIT;
+use crate::limits::NODES_LIMIT;
 use crate::read::BOUND;
 use crate::read::GATE_WORDS;
 use crate::read::GATES;
@@ -25,18 +30,8 @@ ghost use Rattle.meaning.specs.Problem.{Header, header, header-words};
 ghost use Rattle.meaning.specs.Check.{known-version, opening-checks, latch-checks, gate-checks, node-checks, largest-literal, first-right, second-right};
 ghost use Rattle.problem.specs.Promise.{CheckedAs, AnsweredBy, Within, InLimits, Opened};
 
-// Document 01's version and limits.
+// The version that document 01 describes.
 const VERSION: u32 = 1;
-
-const INPUTS_LIMIT: u32 = 64;
-
-const LATCHES_LIMIT: u32 = 64;
-
-const GATES_LIMIT: u32 = 1024;
-
-const NODES_LIMIT: u32 = 64;
-
-const BOUND_LIMIT: u32 = 31;
 
 // "reset over 2" is refused.
 const LARGEST_RESET: u32 = 2;

@@ -1,5 +1,6 @@
 // Checks a problem, and reads its parts.
 pub mod check;
+pub mod limits;
 pub mod read;
 
 // The sizes of a problem, and where its gates and its nodes begin in its words.

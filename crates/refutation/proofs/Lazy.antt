@@ -1,7 +1,7 @@
 -- Judges that are lazy or make their answers up do not meet the promise: for each an input, and what it answers there. Assumes nothing.
 use mathlib.Core.Path.{_≡_, refl, ap}
 use mathlib.Core.List.{List, [], _∷_}
-use Prim.Native.Nat.{ℕ}
+use Prim.Native.Nat.{ℕ, _+_}
 use native.Mathlib.Omega.{arith}
 use lib.IntN.{ℤ, pos, negsuc}
 use lib.ListN.{length, replicate}
@@ -168,12 +168,12 @@ pub made-up-cnf-length-breaks : (i : ℕ) → ¬ (i ≡ 3) → Wrong cut-cnf (Ba
 unfolding laid-down
 made-up-cnf-length-breaks i h = wrong-place cut-cnf (BadCnf i) h
 
--- 1 0 over 65536 variables, one more than the limit: the place is 0
+-- 1 0 over one variable more than the limit: the place is 0
 abbrev pub over-limit : Input
-over-limit = over 65_536 (pos 1 ∷ pos 0 ∷ [])
+over-limit = over (variables-limit + 1) (pos 1 ∷ pos 0 ∷ [])
 
 pub made-up-limit-place-breaks : (i : ℕ) → ¬ (i ≡ 0) → Wrong over-limit (BadCnf i)
-unfolding laid-down
+unfolding laid-down variables-limit
 made-up-limit-place-breaks i h = wrong-place over-limit (BadCnf i) h
 
 -- ════════ The order of checks turned round ════════
@@ -196,7 +196,7 @@ length-for-bad-cnf-word-breaks = wrong-place bad-and-cut-cnf (BadCnf 3) (λ e. o
 
 -- Over the limit the answer is 16, before 11, 12, 13, 14 and yes.
 pub cnf-judged-last-breaks : (r : Judgement) → ¬ (answer-of r .number ≡ 16) → Wrong over-limit r
-unfolding laid-down
+unfolding laid-down variables-limit
 cnf-judged-last-breaks r h = wrong-number over-limit r h
 
 -- T's refutation with a bad hint, `0 2 13 0`, and no word in either work area.

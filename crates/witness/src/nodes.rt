@@ -5,6 +5,7 @@ use crate::rows::literal;
 use problem::Left;
 use problem::Node;
 use problem::Sizes;
+use problem::limits::NODES_LIMIT;
 use problem::read;
 ghost use mathlib.Core.Bool.{false};
 ghost use mathlib.Core.List.{List};
@@ -22,7 +23,7 @@ ghost use Rattle.problem.specs.Promise.{left-of, node-read};
 ghost use Rattle.witness.specs.Tables.{RowsRight, SpanRight, OpReady, PassReady, Passed, TablesReady, StepReady, FormulaReady, LawsBelow, row-in, rows-room, at-node, E-in, op-in, Q-end, shape-in, shape-given};
 
 // As many nodes as document 01's limits allow.
-const NODES: usize = 64;
+const NODES: usize = NODES_LIMIT as usize;
 
 // A row of P and one of Q for each node.
 const ENTRIES: usize = 2 * NODES * POSITIONS;

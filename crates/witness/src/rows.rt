@@ -1,5 +1,9 @@
 // The values of the variables at each position of a run, in one table of rows.
 use problem::Sizes;
+use problem::limits::BOUND_LIMIT;
+use problem::limits::GATES_LIMIT;
+use problem::limits::INPUTS_LIMIT;
+use problem::limits::LATCHES_LIMIT;
 use problem::read::gate_left;
 use problem::read::gate_right;
 use problem::read::latch_next;
@@ -14,9 +18,9 @@ ghost use Rattle.meaning.specs.Witnesses.{bits, witness-length, inputs-at, posi
 ghost use Rattle.witness.specs.Tables.{Ready, Lent, RowsRight, row-width, rows-room, row-in, given-width, latches-from, next-in};
 
 // A row has a value for each of the variables 0..W, whatever W is, and a table a row for each position.
-pub(crate) const ROW_WIDTH: usize = 1153;
+pub(crate) const ROW_WIDTH: usize = 1 + (INPUTS_LIMIT + LATCHES_LIMIT + GATES_LIMIT) as usize;
 
-pub(crate) const POSITIONS: usize = 32;
+pub(crate) const POSITIONS: usize = BOUND_LIMIT as usize + 1;
 
 pub(crate) const ROWS: usize = POSITIONS * ROW_WIDTH;
 

@@ -4,6 +4,7 @@ use Prim.Native.Nat.{_+_, _<_, _≤_}
 use native.Mathlib.Omega.{arith}
 use borrow.Author.Needs.{needs}
 use lib.ListN.{length}
+use Rattle.clauses.specs.Limits.{variables-limit}
 use Rattle.clauses.specs.Answers.{bad-refutation}
 use Rattle.clauses.specs.Refutations.{steps-of}
 use Rattle.refutation.specs.Promise.{counted-answer}
@@ -64,6 +65,7 @@ returns-2 : tie.Need-returns-2
 returns-2 c = room-refused _ _ _ _ _ _ (counted (c .before .before)) (c .if1 .taken)
 
 cast-variables : tie.Need-cast-variables
+unfolding variables-limit
 cast-variables c = omega (arith, few-variables (counted (c .before .before .before)))
 
 count-steps-requires : tie.Need-count-steps-requires
@@ -83,6 +85,7 @@ returns-3 c =
     (ap (counted-answer bad-refutation) (sym (c .before .i .given .1)) ∙ call .count-steps .ensures)
 
 add-t22 : tie.Need-add-t22
+unfolding variables-limit
 add-t22 c = omega (arith, few-variables (counted (counting (c .before .before .before))))
 
 returns-4 : tie.Need-returns-4

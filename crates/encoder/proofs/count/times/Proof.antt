@@ -1,14 +1,14 @@
 -- `encoder::count::times` meets its contract. Assumes nothing.
 use mathlib.Core.Path.{refl}
-use Prim.Native.Nat.{_*_, _^_, _≤_}
+use Prim.Native.Nat.{_*_, _-_, _^_, _≤_}
 use native.Mathlib.Nat.{mul-le-mul}
 use native.Mathlib.Omega.{arith}
 use Rattle.encoder.proofs.count.times.Statement.{statement}
 use Rattle.encoder.proofs.count.times.Tie as tie
 
-size : (c : tie.Start) → c .args .a * c .args .b ≤ 65535 * 2 ^ 32
+size : (c : tie.Start) → c .args .a * c .args .b ≤ (2 ^ 16 - 1) * 2 ^ 32
 size c =
-    let first : c .args .a ≤ 65535 = omega arith in
+    let first : c .args .a ≤ 2 ^ 16 - 1 = omega arith in
     let second : c .args .b ≤ 2 ^ 32 = omega arith in
     mul-le-mul first second
 
