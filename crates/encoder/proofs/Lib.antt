@@ -7,3 +7,5 @@ pub mod Loops
 pub mod Tallies
 pub mod Outcomes
 pub mod Unique
+pub mod Lazy
+pub mod LazyCounts

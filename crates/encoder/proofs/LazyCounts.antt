@@ -1,0 +1,218 @@
+-- Counters of the CNF that are lazy or wrong do not meet the promise, and neither counters nor writers do that hold the number of words in
+-- 16 bits: for each an input, what the promise gives there, and what they give. Assumes nothing.
+use mathlib.Core.Path.{_≡_, refl, sym, _∙_, ap}
+use mathlib.Core.Bool.{true}
+use mathlib.Core.List.{List, [], _∷_, _++_}
+use Prim.Native.Nat.{ℕ, _+_, _-_, _%_, _^_, _≤_, _<_}
+use native.Mathlib.Nat.{add-sub-of-le}
+use native.Mathlib.Omega.{arith}
+use lib.IntN.{ℤ, pos}
+use lib.ListN.{length, replicate, length-replicate, getD-replicate, List·getD-append}
+use lib.Seq.{getD-drop}
+use Rattle.clauses.specs.Lists.{numbers, each, all-of}
+use Rattle.clauses.specs.Answers.{Answer}
+use Rattle.clauses.proofs.Satisfaction.{both-true, leb-if-le}
+use Rattle.clauses.proofs.Answers.{passing}
+use Rattle.meaning.specs.Limits.{inputs-limit, latches-limit, gates-limit, nodes-limit, bound-limit}
+use Rattle.meaning.specs.Problem.{problem, header, word, latch-place, gate-place, node-place}
+use Rattle.meaning.specs.Check.{known-version, largest-literal, gate-limit, largest-reset, latch-checks, gate-checks, node-checks, part-checks, parts-checked, problem-checked, check-problem, WellFormed}
+use Rattle.meaning.specs.Cnf.{cnf-words}
+use Rattle.meaning.specs.Counts.{variable-count, clause-count, word-count}
+use Rattle.meaning.specs.Calls.{write-cnf}
+use Rattle.meaning.specs.Cases.{T-words}
+use Rattle.meaning.proofs.Numbers.{all-of-below}
+use Rattle.meaning.proofs.Check.{all-of-parts, well-formed-if-all-pass, check-yes, checked-if-well-formed}
+use Rattle.meaning.proofs.Counts.{word-count-is}
+use Rattle.problem.specs.declared.Refusal.the-variants.{BadVersion, BadLiteral}
+use Rattle.encoder.specs.declared.Encoded.the-variants.{Written, RoomTooSmall}
+use Rattle.encoder.specs.declared.Counts.{Counts}
+use Rattle.encoder.specs.declared.Counted.{Counted}
+use Rattle.encoder.specs.declared.Counted.the-variants.{Good, Refused}
+use Rattle.encoder.specs.Promise.{CountedAs}
+use Rattle.encoder.proofs.Outcomes.{too-small}
+use Rattle.encoder.proofs.Unique.{counted-unique}
+use Rattle.encoder.proofs.Lazy as writers
+use Rattle.encoder.proofs.Lazy.{T-longer-words, T-bad-words}
+
+-- ════════ What it is to break the promise ════════
+
+pub record Input : Type 0 where
+  pub version : ℕ
+  pub words : List ℕ
+
+abbrev pub Meets : Input → Counted → Type 0
+Meets x = CountedAs (x .version) (x .words)
+
+abbrev pub Breaks : Input → Counted → Type 0
+Breaks x r = ¬ (Meets x r)
+
+-- The answer that meets the promise is the only one.
+pub other-answer-breaks : {x : Input} {r s : Counted} → Meets x r → ¬ (s ≡ r) → Breaks x s
+other-answer-breaks {x} {r} {s} m h j = h (counted-unique (x .version) (x .words) s r j m)
+
+-- So is each of its numbers.
+module _ {x : Input} {right c : Counts} (m : Meets x (Good right)) where
+  pub other-variables-break : ¬ (c .variables ≡ right .variables) → Breaks x (Good c)
+  other-variables-break h = other-answer-breaks m (λ e. h (cc))
+
+  pub other-clauses-break : ¬ (c .clauses ≡ right .clauses) → Breaks x (Good c)
+  other-clauses-break h = other-answer-breaks m (λ e. h (cc))
+
+  pub other-words-break : ¬ (c .words ≡ right .words) → Breaks x (Good c)
+  other-words-break h = other-answer-breaks m (λ e. h (cc))
+
+-- ════════ Inputs, and what the promise gives ════════
+
+abbrev pub over : List ℕ → Input
+over ws = record { version = 1; words = ws }
+
+abbrev pub numbers-of : ℕ → ℕ → ℕ → Counts
+numbers-of v c w = record { variables = v; clauses = c; words = w }
+
+abbrev pub T : Input
+T = over T-words
+
+-- T at bound 1: 0 1 0 1 1, 3 0, 0 2 0
+abbrev pub T-longer : Input
+T-longer = over T-longer-words
+
+-- T with the next literal 4, at word 5: 0 1 0 1 0, 4 0, 0 2 0
+abbrev pub T-bad : Input
+T-bad = over T-bad-words
+
+-- Another version.
+abbrev pub T-unknown : Input
+T-unknown = record { version = 2; words = T-words }
+
+-- The answer that document 01 lays down.
+unfoldable laid-down : Input → Answer
+unfolding known-version inputs-limit latches-limit gates-limit nodes-limit bound-limit part-checks parts-checked problem-checked check-problem
+laid-down x = check-problem (x .version) (x .words)
+
+pub T-meets : Meets T (Good (numbers-of 6 12 37))
+unfolding laid-down problem variable-count clause-count word-count
+T-meets = record { answered = refl; numbered = refl }
+
+pub T-longer-meets : Meets T-longer (Good (numbers-of 10 23 75))
+unfolding laid-down problem variable-count clause-count word-count
+T-longer-meets = record { answered = refl; numbered = refl }
+
+pub T-bad-meets : Meets T-bad (Refused (BadLiteral 5))
+unfolding laid-down
+T-bad-meets = record { answered = refl; numbered = tt }
+
+pub T-unknown-meets : Meets T-unknown (Refused BadVersion)
+unfolding laid-down
+T-unknown-meets = record { answered = refl; numbered = tt }
+
+-- ════════ Wrong counters ════════
+
+-- Any other answer to T.
+pub refuses-all-breaks : (r : Counted) → ¬ (r ≡ Good (numbers-of 6 12 37)) → Breaks T r
+refuses-all-breaks r = other-answer-breaks T-meets
+
+-- One of the three numbers is another.
+module _ (c : Counts) where
+  pub made-up-variable-count-breaks : ¬ (c .variables ≡ 6) → Breaks T (Good c)
+  made-up-variable-count-breaks = other-variables-break T-meets
+
+  pub made-up-clause-count-breaks : ¬ (c .clauses ≡ 12) → Breaks T (Good c)
+  made-up-clause-count-breaks = other-clauses-break T-meets
+
+  pub made-up-word-count-breaks : ¬ (c .words ≡ 37) → Breaks T (Good c)
+  made-up-word-count-breaks = other-words-break T-meets
+
+  pub counts-a-bad-problem-breaks : Breaks T-bad (Good c)
+  counts-a-bad-problem-breaks = other-answer-breaks T-bad-meets (λ e. let z : _≡_ {A = ℕ} 0 1 = cc in omega arith)
+
+pub made-up-place-breaks : (i : ℕ) → ¬ (i ≡ 5) → Breaks T-bad (Refused (BadLiteral i))
+made-up-place-breaks i h = other-answer-breaks T-bad-meets (λ e. h (cc))
+
+pub takes-any-version-breaks : (r : Counted) → ¬ (r ≡ Refused BadVersion) → Breaks T-unknown r
+takes-any-version-breaks r = other-answer-breaks T-unknown-meets
+
+-- The numbers of bound 0 at bound 1, which are those of k positions.
+pub always-counts-T-breaks : Breaks T-longer (Good (numbers-of 6 12 37))
+always-counts-T-breaks = other-words-break T-longer-meets (λ e. omega arith)
+
+-- ════════ At all limits ════════
+
+-- 0 0 0, then 32 times 6 0 0 and 31 times 7 0 0: one atom, and 63 U or R nodes over it
+abbrev limit-nodes : List ℕ
+limit-nodes = 0 ∷ 0 ∷ 0 ∷ each (replicate 32 6 ++ replicate 31 7) (λ op. op ∷ 0 ∷ 0 ∷ [])
+
+-- 64 64 1024 64 31, and a 0 for each word of a latch or a gate before the nodes: "At all limits", with 437,012 words.
+unfoldable pub limits : List ℕ
+limits = 64 ∷ 64 ∷ 1_024 ∷ 64 ∷ 31 ∷ (replicate 2_176 0 ++ limit-nodes)
+
+-- Latches and gates of zeros are in range.
+module _ (ws : List ℕ) (zeros : (i : ℕ) → 5 ≤ i → i < node-place (header ws) 0 → word ws i ≡ 0) where
+  zero-latches-pass : (i : ℕ) → i < header ws .latches → all-of passing (latch-checks (header ws) ws i) ≡ true
+  zero-latches-pass i h =
+      let at = latch-place (header ws) i in
+      let next : word ws at ≤ largest-literal (header ws) = omega (arith, zeros at (omega arith) (omega arith)) in
+      let reset : word ws (at + 1) ≤ largest-reset = omega (arith, zeros (at + 1) (omega arith) (omega arith)) in
+      both-true (leb-if-le _ _ next) (both-true (leb-if-le _ _ reset) refl)
+
+  zero-gates-pass : (j : ℕ) → j < header ws .gates → all-of passing (gate-checks (header ws) ws j) ≡ true
+  zero-gates-pass j h =
+      let at = gate-place (header ws) j in
+      let left : word ws at < gate-limit (header ws) j = omega (arith, zeros at (omega arith) (omega arith)) in
+      let right : word ws (at + 1) < gate-limit (header ws) j = omega (arith, zeros (at + 1) (omega arith) (omega arith)) in
+      both-true (leb-if-le _ _ left) (both-true (leb-if-le _ _ right) refl)
+
+limits-zeros : (i : ℕ) → 5 ≤ i → i < 2_181 → word limits i ≡ 0
+unfolding limits
+limits-zeros i l h =
+    ap (word limits) (sym (add-sub-of-le l)) ∙ sym (getD-drop 5 limits (i - 5) 0)
+    ∙ List·getD-append (replicate 2_176 0) limit-nodes 0 (i - 5) (rw length-replicate (omega arith))
+    ∙ getD-replicate 2_176 (i - 5) 0 0 (omega arith)
+
+limits-nodes : all-of passing (each (numbers 0 64) (node-checks (header limits) limits)) ≡ true
+unfolding limits
+limits-nodes = refl
+
+limits-right : WellFormed 1 limits
+unfolding limits known-version inputs-limit latches-limit gates-limit nodes-limit bound-limit
+limits-right =
+    well-formed-if-all-pass 1 limits
+    (all-of-parts passing limits (zero-latches-pass limits limits-zeros) (zero-gates-pass limits limits-zeros)
+    (all-of-below passing (node-checks (header limits) limits) 64 limits-nodes))
+
+limits-words : word-count (problem limits) ≡ 437_012
+unfolding limits problem word-count
+limits-words = refl
+
+pub limits-meets : Meets (over limits) (Good (numbers-of 41_057 127_346 437_012))
+unfolding limits problem variable-count clause-count word-count
+limits-meets = record { answered = sym ((check-yes 1 limits) .1 limits-right); numbered = refl }
+
+-- A room of fewer words.
+pub limits-small-room-meets : (n : ℕ) → n < 437_012 → writers.Meets (writers.over limits n) (RoomTooSmall 437_012) (replicate n (pos 9))
+unfolding write-cnf
+limits-small-room-meets n h =
+    let words-are : 437_012 ≡ length (cnf-words (problem limits)) = sym (word-count-is (problem limits) ∙ limits-words) in
+    let small = too-small {before = replicate n (pos 9)} words-are (rw length-replicate h) in
+    record { answered = small .answered ∙ sym (checked-if-well-formed 1 limits _ limits-right); room-after = small .room-after }
+
+-- ════════ The number of words in 16 bits ════════
+
+-- 437,012 cut to 16 bits is 43,796; no number of 16 bits will do.
+pub counted-in-16-bits-breaks : (c : Counts) → c .words < 2 ^ 16 → Breaks (over limits) (Good c)
+counted-in-16-bits-breaks c h = other-words-break limits-meets (λ e. omega arith)
+
+pub cut-count-breaks : (v c : ℕ) → Breaks (over limits) (Good (numbers-of v c (437_012 % 2 ^ 16)))
+cut-count-breaks v c = counted-in-16-bits-breaks (numbers-of v c 43_796) (omega arith)
+
+module _ (after : List ℤ) where
+  -- The answer at a room that is too small, of m words.
+  pub count-in-16-bits-breaks : (n m : ℕ) → n < 2 ^ 16 → m < 437_012 → writers.Breaks (writers.over limits m) (RoomTooSmall n) after
+  count-in-16-bits-breaks n m l h = writers.other-answer-breaks (limits-small-room-meets m h) (λ e. let z : n ≡ 437_012 = cc in omega arith)
+
+  pub cut-need-breaks : writers.Breaks (writers.over limits 0) (RoomTooSmall (437_012 % 2 ^ 16)) after
+  cut-need-breaks = count-in-16-bits-breaks 43_796 0 (omega arith) (omega arith)
+
+  -- A room of 43,796 words is too small, and the count that was cut says that it suffices.
+  pub cut-room-accepted-breaks : (n : ℕ) → writers.Breaks (writers.over limits 43_796) (Written n) after
+  cut-room-accepted-breaks n =
+      writers.other-answer-breaks (limits-small-room-meets 43_796 (omega arith)) (λ e. let z : _≡_ {A = ℕ} 0 1 = cc in omega arith)
