@@ -1,13 +1,14 @@
 -- Laws of a lent buffer of which a part is written. Assumes nothing.
 use mathlib.Core.Path.{_≡_, refl, sym, _∙_, ap}
-use mathlib.Core.List.{List, [], _∷_, _++_, append-assoc}
+use mathlib.Core.List.{List, [], _∷_, _++_}
 use Prim.Native.Nat.{ℕ, suc, _+_, _≤_, _<_}
 use native.Mathlib.Nat.{add-zero}
 use native.Mathlib.Numerals.{add-one}
 use native.Mathlib.Omega.{arith}
 use lib.ListN.{length, getD, take, drop, set, length-append, take-append-drop, length-drop, length-set}
-use lib.Seq.{take-suc, length-take-le, drop-cons, drop-drop, take-at, drop-at, take-set-le, drop-set-add, getD-set-same, drop-set-lt, set-split, set-append-seam, append-snoc}
+use lib.Seq.{take-suc, length-take-le, drop-cons, drop-drop, take-set-le, drop-set-add, getD-set-same, drop-set-lt, set-append-seam, append-snoc}
 use Rattle.clauses.specs.Lists.{written}
+use Rattle.clauses.proofs.PutAt.{put-at, put-at-one, put-at-length, put-at-then}
 use Rattle.checker.specs.Text.{placed, Put}
 
 -- ════════ From the start ════════
@@ -21,8 +22,11 @@ written-more s x o h =
 
 -- ════════ From a place on ════════
 
+placed-is : (t : List ℕ) (at : ℕ) (o : List ℕ) → placed t at o ≡ put-at t at o
+placed-is t at o = rw (drop-drop (length t) at o)
+
 pub placed-one : (b at : ℕ) (o : List ℕ) → at < length o → set o at b ≡ placed (b ∷ []) at o
-placed-one b at o h = set-split o at b h ∙ rw (drop-drop 1 at o, add-one)
+placed-one b at o h = put-at-one b at o h ∙ sym (placed-is (b ∷ []) at o)
 
 drop-from-set : (o : List ℕ) (i b : ℕ) → i < length o → drop i (set o i b) ≡ b ∷ drop (suc i) o
 drop-from-set o i b h =
@@ -32,28 +36,15 @@ drop-from-set o i b h =
 
 module _ (at : ℕ) (o : List ℕ) where
   pub length-placed : (t : List ℕ) → at + length t ≤ length o → length (placed t at o) ≡ length o
-  length-placed t h =
-      let fits : at ≤ length o = omega arith in
-      rw (length-append (take at o), length-append t, length-drop (length t), length-drop at, length-take-le at o fits) (omega arith)
+  length-placed t h = ap length (placed-is t at o) ∙ put-at-length t at o h
 
-  module _ (s : List ℕ) (h : at + length s ≤ length o) where
-    head-length : length (take at o ++ s) ≡ at + length s
-    head-length =
-        let fits : at ≤ length o = omega arith in
-        rw (length-append, length-take-le at o fits)
-
-    -- What is put after a text that was put.
-    pub placed-append : (t : List ℕ) → placed t (at + length s) (placed s at o) ≡ placed (s ++ t) at o
-    placed-append t =
-        rw (
-          ← append-assoc (take at o) s (drop (length s) (drop at o)),
-          take-at (take at o ++ s) (drop (length s) (drop at o)) (at + length s) head-length,
-          drop-at (take at o ++ s) (drop (length s) (drop at o)) (at + length s) head-length,
-          drop-drop (length t) (length s) (drop at o),
-          length-append s t,
-          append-assoc (take at o) s,
-          append-assoc s t,
-        )
+  -- What is put after a text that was put.
+  pub placed-append : (s : List ℕ) → at + length s ≤ length o → (t : List ℕ) → placed t (at + length s) (placed s at o) ≡ placed (s ++ t) at o
+  placed-append s h t =
+      placed-is t (at + length s) (placed s at o)
+      ∙ ap (put-at t (at + length s)) (placed-is s at o)
+      ∙ put-at-then s at o h t
+      ∙ sym (placed-is (s ++ t) at o)
 
   -- A last byte that was set first.
   pub placed-last : (t : List ℕ) (b : ℕ) → at + length t < length o → placed t at (set o (at + length t) b) ≡ placed (t ++ (b ∷ [])) at o

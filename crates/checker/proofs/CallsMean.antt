@@ -13,7 +13,7 @@ use Rattle.clauses.specs.Answers.{Answer, Check, first-failing, granted}
 use Rattle.clauses.specs.Clauses.{Clause}
 use Rattle.clauses.specs.Refutations.{Part, literals, part-after, own-after, word-checks, refutation-checks, area-checks, steps-of, judge-steps, judge-clauses}
 use Rattle.clauses.proofs.Satisfaction.{both-true, first-true, second-true, all-of-append}
-use Rattle.clauses.proofs.Answers.{all-pass-if-granted}
+use Rattle.clauses.proofs.Answers.{number-of, all-pass-if-granted}
 use Rattle.refutation.specs.declared.Judgement.{Judgement}
 use Rattle.refutation.specs.declared.Judgement.the-variants.{BadCnf}
 use Rattle.refutation.specs.Promise.{answer-of, Judged}
@@ -50,9 +50,6 @@ use Rattle.checker.specs.declared.Refuted.{Refuted}
 use Rattle.checker.specs.declared.Refuted.the-variants.{Yes}
 use Rattle.checker.specs.Refutation.{refuted-answer, JudgedAs}
 use Rattle.checker.proofs.ProblemRefutation.{judged-as-clauses}
-
-number-of : {a b : Answer} → a ≡ b → a .number ≡ b .number
-number-of e = ap (λ (x : Answer). x .number) e
 
 -- ════════ The check ════════
 

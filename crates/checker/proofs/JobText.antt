@@ -1,22 +1,21 @@
 -- What is printed for a job, by the answer to its bytes and its words. Assumes nothing.
 use mathlib.Core.Path.{_≡_, refl, sym, _∙_, ap}
-use mathlib.Core.Bool.{Bool, true, false, cond, false≢true}
+use mathlib.Core.Bool.{Bool, true, false, cond}
 use mathlib.Core.List.{List, [], _∷_}
-use Prim.Native.Nat.{ℕ, zero, suc, _≤_, _<_, _^_}
+use Prim.Native.Nat.{ℕ, _≤_, _<_, _^_}
 use native.Mathlib.Omega.{arith}
 use borrow.Author.Tests.{leb-true, ne-eqb}
 use lib.Dec.{leb, eqb}
-use lib.IntN.{ℤ, pos, negsuc}
+use lib.IntN.{ℤ, pos}
 use lib.ListN.{length, take, drop, replicate, length-append}
 use lib.Seq.{take-at}
 use Rattle.clauses.specs.Lists.{all-of, written}
 use Rattle.clauses.specs.Limits.{variables-limit}
 use Rattle.clauses.specs.Answers.{Answer, first-failing, granted}
-use Rattle.clauses.specs.Clauses.{Clause, literal-within, Within}
+use Rattle.clauses.specs.Clauses.{Clause}
 use Rattle.clauses.specs.CnfWords.{ended-by-0, words-of}
-use Rattle.clauses.proofs.Satisfaction.{both-true, first-true, second-true}
-use Rattle.clauses.proofs.Answers.{passing, first-failing-passed, all-pass-if-granted}
-use Rattle.clauses.proofs.ReadBack.{not-0, NoZeros}
+use Rattle.clauses.proofs.Answers.{passing, first-failing-passed, all-pass-if-granted, number-of, place-of}
+use Rattle.clauses.proofs.ReadBack.{within-no-zeros}
 use Rattle.meaning.specs.Limits.{program-room}
 use Rattle.meaning.specs.Answers.{bad-job, room-too-small}
 use Rattle.meaning.specs.Problem.{Problem, problem}
@@ -25,12 +24,12 @@ use Rattle.meaning.specs.Cnf.{cnf, cnf-words, variables}
 use Rattle.meaning.specs.Counts.{variable-count, clause-count}
 use Rattle.meaning.specs.Calls.{room-checked, write-cnf, room-after-writing}
 use Rattle.meaning.specs.JobFile.{job-version, job-words, job-checks, job-checked, job-answer, cnf-text, refusal-line, printed}
-use Rattle.meaning.proofs.Check.{first-failing-refused, checked-if-well-formed, not-well-formed, proper-if-well-formed}
+use Rattle.meaning.proofs.Check.{first-failing-refused, checked-if-well-formed, proper-if-well-formed}
 use Rattle.meaning.proofs.Counts.{variable-count-is, clause-count-is}
 use Rattle.meaning.proofs.Ranges.{literals-within, variables-fit}
 use Rattle.problem.specs.declared.Refusal.{Refusal}
 use Rattle.problem.specs.Promise.{refusal-answer}
-use Rattle.problem.proofs.Unique.{refusal-not-yes}
+use Rattle.problem.proofs.Whole.{refused-whatever}
 use Rattle.encoder.specs.declared.Encoded.the-variants.{Written}
 use Rattle.encoder.specs.declared.Counts.{Counts}
 use Rattle.encoder.specs.Promise.{EncodedAs, counts-of}
@@ -61,20 +60,6 @@ clauses-within-words [] = omega arith
 clauses-within-words (c ∷ cs) =
     omega (arith, clauses-within-words cs, length-append (ended-by-0 c) (words-of cs), length-append c (pos 0 ∷ []))
 
-literal-not-0 : (v : ℕ) (w : ℤ) → literal-within v w ≡ true → not-0 w ≡ true
-literal-not-0 v (pos zero) e = absurd (false≢true e)
-literal-not-0 v (pos (suc n)) e = refl
-literal-not-0 v (negsuc n) e = refl
-
--- What each element that passes one test passes too.
-all-of-also : {A : Type 0} {f g : A → Bool} → ((x : A) → f x ≡ true → g x ≡ true) → (xs : List A) → all-of f xs ≡ true → all-of g xs ≡ true
-all-of-also h [] e = refl
-all-of-also {A} {f} {g} h (x ∷ xs) e =
-    both-true (h x (first-true (f x) (all-of f xs) e)) (all-of-also h xs (second-true (f x) (all-of f xs) e))
-
-no-zeros : (v : ℕ) (cs : List Clause) → Within v cs → NoZeros cs
-no-zeros v = all-of-also (all-of-also (literal-not-0 v))
-
 module _ (p : Problem) (proper : Proper p) where
   pub variables-small : variable-count p < 2 ^ 32
   unfolding variables-limit
@@ -84,7 +69,7 @@ module _ (p : Problem) (proper : Proper p) where
   unfolding cnf-words
   text-of-cnf =
       rw (← variable-count-is p (proper .nodes-some), ← clause-count-is p)
-      (flat-text-of-clauses (variables p) (cnf p) (no-zeros (variables p) (cnf p) (literals-within p proper)))
+      (flat-text-of-clauses (variables p) (cnf p) (within-no-zeros (variables p) (cnf p) (literals-within p proper)))
 
 pub clauses-by-words : (p : Problem) → clause-count p ≤ length (cnf-words p)
 unfolding cnf-words
@@ -98,11 +83,8 @@ module _ (version : ℕ) (ws : List ℕ) where
 
   -- A refusal of the check is that of writing, for every room.
   pub refused-for-all : (f : Refusal) (room : ℕ) → refusal-answer f ≡ check-problem version ws → refusal-answer f ≡ write-cnf version ws room
-  unfolding write-cnf check-problem
-  refused-for-all f room e = e ∙ not-well-formed version ws (granted 0) _ not-well
-    where
-      not-well : WellFormed version ws → ⊥
-      not-well w = refusal-not-yes f (ap (λ (a : Answer). a .number) (e ∙ checked-if-well-formed version ws (granted 0) w))
+  unfolding write-cnf
+  refused-for-all f room = refused-whatever version ws f _
 
   -- The CNF as it was written.
   module _ (w : WellFormed version ws) {before after : List ℤ} {n : ℕ} (e : EncodedAs version ws before (Written n) after) where
@@ -113,9 +95,9 @@ module _ (version : ℕ) (ws : List ℕ) where
         go : (b : Bool) → leb needed (length before) ≡ b → granted n ≡ cond b (granted needed) (room-too-small needed)
             → (n ≡ needed) × (n ≤ length before)
         go true p d =
-            let same : n ≡ needed = ap (λ (a : Answer). a .place) d in
+            let same : n ≡ needed = place-of d in
             (same, rw same (leb-true needed (length before) p))
-        go false p d = let z : _≡_ {A = ℕ} 0 6 = ap (λ (a : Answer). a .number) d in absurd (omega arith)
+        go false p d = let z : _≡_ {A = ℕ} 0 6 = number-of d in absurd (omega arith)
 
     pub clauses-small : clause-count (problem ws) ≤ length before
     clauses-small = omega (arith, words-fit, clauses-by-words (problem ws))
@@ -150,7 +132,7 @@ module _ (bs : List ℕ) where
     where
       go : (b : Bool) → all-of passing (job-checks bs) ≡ b → first-failing (job-checks bs) (granted 0) ≡ job-answer bs
       go true p =
-          let z : _≡_ {A = ℕ} 15 0 = ap (λ (a : Answer). a .number) (e ∙ first-failing-passed (job-checks bs) (granted 0) p) in
+          let z : _≡_ {A = ℕ} 15 0 = number-of (e ∙ first-failing-passed (job-checks bs) (granted 0) p) in
           absurd (omega arith)
       go false p = first-failing-refused (job-checks bs) _ _ p
 

@@ -7,13 +7,14 @@ use native.Mathlib.Omega.{arith}
 use lib.IntN.{ℤ, pos}
 use lib.ListN.{length, replicate, getD}
 use Rattle.clauses.specs.Answers.{Answer}
+use Rattle.clauses.specs.Cases.{T-cnf, T-steps, T-other-steps}
 use Rattle.clauses.specs.Clauses.{variable-of}
 use Rattle.clauses.specs.Refutations.{judge-clauses, judge-steps, refutation-checks, area-checks, step-accepted, area-after}
 use Rattle.meaning.specs.Limits.{inputs-limit, latches-limit, gates-limit, nodes-limit, bound-limit}
 use Rattle.meaning.specs.Problem.{problem}
 use Rattle.meaning.specs.Check.{known-version, part-checks, parts-checked, problem-checked}
 use Rattle.meaning.specs.Cnf.{cnf, cnf-words, variables}
-use Rattle.meaning.specs.Cases.{T-words, T-cnf}
+use Rattle.meaning.specs.Cases.{T-words}
 use Rattle.meaning.specs.Calls.{room-checked, judge-of-cnf, judge-refutation, room-after-judging, numbers-after, clauses-after}
 use Rattle.pairing.proofs.AtOrBelow.{problem-refuted}
 use Rattle.problem.specs.declared.Refusal.the-variants.{BadVersion}
@@ -59,14 +60,6 @@ module _ {x : Input} {r s : Refuted} {room₁ room₂ : List ℤ} {numbers₁ cl
 abbrev over : List ℕ → List ℤ → ℕ → ℕ → ℕ → Input
 over ws refutation room m n =
     record { version = 1; words = ws; refutation = refutation; room = replicate room (pos 9); numbers = replicate m 9; clauses = replicate n 9 }
-
--- 0 2 12 5 0
-abbrev T-steps : List ℤ
-T-steps = pos 0 ∷ pos 2 ∷ pos 12 ∷ pos 5 ∷ pos 0 ∷ []
-
--- 0 12 5 0
-abbrev T-other-steps : List ℤ
-T-other-steps = pos 0 ∷ pos 12 ∷ pos 5 ∷ pos 0 ∷ []
 
 -- 0 2 13 0: hint 13 is the step itself, at word 2
 abbrev bad-hint : List ℤ

@@ -6,7 +6,8 @@ use Prim.Native.Nat.{ℕ, _≤_}
 use native.Mathlib.Omega.{arith}
 use lib.IntN.{ℤ}
 use lib.ListN.{length, getD, replicate, length-append}
-use Rattle.clauses.specs.Answers.{Answer, answer, first-failing, granted}
+use Rattle.clauses.specs.Answers.{answer, first-failing, granted}
+use Rattle.clauses.proofs.Answers.{number-of, place-of}
 use Rattle.meaning.specs.Limits.{inputs-limit, latches-limit, gates-limit, nodes-limit, bound-limit, job-limit, program-room}
 use Rattle.meaning.specs.Answers.{bad-job}
 use Rattle.meaning.specs.Problem.{problem}
@@ -38,16 +39,16 @@ unfolding job-checks job-limit known-version
 T-answer = refl
 
 pub made-up-place-breaks : (j : Job) (p : ℕ) → j .answer ≡ Bad p → ¬ (p ≡ 0) → ¬ (JobRead other-version j)
-made-up-place-breaks j p a h r = h (ap (λ (x : Answer). x .place) (ap job-answered (sym a) ∙ r .answered ∙ other-version-answer))
+made-up-place-breaks j p a h r = h (place-of (ap job-answered (sym a) ∙ r .answered ∙ other-version-answer))
 
 pub other-version-read-breaks : (j : Job) → j .answer ≡ Good → ¬ (JobRead other-version j)
 other-version-read-breaks j a r =
-    let z : _≡_ {A = ℕ} 0 15 = ap (λ (x : Answer). x .number) (ap job-answered (sym a) ∙ r .answered ∙ other-version-answer) in
+    let z : _≡_ {A = ℕ} 0 15 = number-of (ap job-answered (sym a) ∙ r .answered ∙ other-version-answer) in
     omega arith
 
 pub refuses-all-breaks : (j : Job) (p : ℕ) → j .answer ≡ Bad p → ¬ (JobRead T-file j)
 refuses-all-breaks j p a r =
-    let z : _≡_ {A = ℕ} 15 0 = ap (λ (x : Answer). x .number) (ap job-answered (sym a) ∙ r .answered ∙ T-answer) in
+    let z : _≡_ {A = ℕ} 15 0 = number-of (ap job-answered (sym a) ∙ r .answered ∙ T-answer) in
     omega arith
 
 -- Case T has ten words.

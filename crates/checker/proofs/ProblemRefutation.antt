@@ -3,11 +3,11 @@
 use mathlib.Core.Path.{_≡_, refl, sym, _∙_, ap}
 use mathlib.Core.Bool.{Bool, true, false, false≢true}
 use mathlib.Core.List.{List, [], _∷_}
-use Prim.Native.Nat.{ℕ, zero, suc, _+_, _<_, _≤_}
+use Prim.Native.Nat.{ℕ, suc, _+_, _<_, _≤_}
 use native.Mathlib.Numerals.{add-one}
 use native.Mathlib.Omega.{arith}
 use borrow.Author.Tests.{le-leb, lt-leb}
-use lib.IntN.{ℤ, pos, negsuc}
+use lib.IntN.{ℤ}
 use lib.Dec.{leb}
 use lib.ListN.{length, take}
 use lib.Seq.{take-append-seam}
@@ -17,9 +17,9 @@ use Rattle.clauses.specs.Answers.{Answer, check, first-failing, granted, bad-cn
 use Rattle.clauses.specs.Clauses.{Clause, Within, variable-of, literal-within}
 use Rattle.clauses.specs.CnfWords.{ended-by-0, words-of, clauses-of, cnf-checks}
 use Rattle.clauses.specs.Refutations.{steps-of, refutation-checks, area-checks, judge-steps, judge-clauses, judge-cnf, judged, area-after}
-use Rattle.clauses.proofs.Satisfaction.{both-true, first-true, second-true, all-of-append, leb-if-le}
-use Rattle.clauses.proofs.Answers.{passing, first-failing-passed}
-use Rattle.clauses.proofs.ReadBack.{not-0, NoZeros, clauses-back, words-ended}
+use Rattle.clauses.proofs.Satisfaction.{both-true, first-true, second-true, all-of-append}
+use Rattle.clauses.proofs.Answers.{passing, first-failing-passed, numbered-passing, number-of}
+use Rattle.clauses.proofs.ReadBack.{clauses-back, words-ended, within-no-zeros}
 use Rattle.refutation.specs.declared.Judgement.{Judgement}
 use Rattle.refutation.specs.declared.Judgement.the-variants as judgements
 use Rattle.refutation.specs.Promise.{answer-of, Judged}
@@ -28,17 +28,17 @@ use Rattle.refutation.proofs.RightWords.{clauses-fewer}
 use Rattle.refutation.proofs.Judgements.{refused-anyway, steps-judged}
 use Rattle.meaning.specs.Answers.{room-too-small}
 use Rattle.meaning.specs.Problem.{Problem, problem}
-use Rattle.meaning.specs.Check.{WellFormed, Proper, check-problem}
+use Rattle.meaning.specs.Check.{WellFormed, Proper}
 use Rattle.meaning.specs.Cnf.{cnf, cnf-words, variables}
 use Rattle.meaning.specs.Calls.{room-checked, write-cnf, room-after-writing, judge-of-cnf, judge-refutation, room-after-judging, numbers-after, clauses-after}
-use Rattle.meaning.proofs.Check.{check-yes, checked-if-well-formed, not-well-formed, proper-if-well-formed}
+use Rattle.meaning.proofs.Check.{check-yes, checked-if-well-formed, proper-if-well-formed}
 use Rattle.meaning.proofs.Counts.{variable-count-is, clause-count-is, word-count-is}
 use Rattle.meaning.proofs.Ranges.{literals-within, variables-fit}
 use Rattle.pairing.proofs.AtOrBelow.{problem-refuted}
 use Rattle.problem.specs.declared.Refusal.{Refusal}
 use Rattle.problem.specs.declared.Refusal.the-variants.{BadVersion, BadLength, OutsideLimits, BadReset, BadLiteral, BadNode}
 use Rattle.problem.specs.Promise.{refusal-answer}
-use Rattle.problem.proofs.Unique.{refusal-not-yes}
+use Rattle.problem.proofs.Whole.{refused-whatever}
 use Rattle.encoder.specs.declared.Encoded.{Encoded}
 use Rattle.encoder.specs.declared.Counts.{Counts}
 use Rattle.encoder.specs.declared.Counted.the-variants.{Good, Refused}
@@ -53,23 +53,8 @@ module _ (v : ℕ) where
   abbrev small : ℤ → Bool
   small w = leb (variable-of w) v
 
-  within-not-0 : (w : ℤ) → literal-within v w ≡ true → not-0 w ≡ true
-  within-not-0 (pos zero) e = e
-  within-not-0 (pos (suc n)) e = refl
-  within-not-0 (negsuc n) e = refl
-
-  clause-not-0 : (c : Clause) → all-of (literal-within v) c ≡ true → all-of not-0 c ≡ true
-  clause-not-0 [] e = refl
-  clause-not-0 (w ∷ c) e =
-      both-true (within-not-0 w (first-true (literal-within v w) _ e)) (clause-not-0 c (second-true (literal-within v w) _ e))
-
-  within-no-zeros : (cs : List Clause) → Within v cs → NoZeros cs
-  within-no-zeros [] e = refl
-  within-no-zeros (c ∷ cs) e =
-      both-true (clause-not-0 c (first-true (all-of (literal-within v) c) _ e)) (within-no-zeros cs (second-true (all-of (literal-within v) c) _ e))
-
   clause-small : (c : Clause) → all-of (literal-within v) c ≡ true → all-of small (ended-by-0 c) ≡ true
-  clause-small [] e = both-true (leb-if-le 0 v (omega arith)) refl
+  clause-small [] e = both-true (le-leb 0 v (omega arith)) refl
   clause-small (w ∷ c) e =
       both-true (second-true (leb 1 (variable-of w)) _ (first-true (literal-within v w) _ e)) (clause-small c (second-true (literal-within v w) _ e))
 
@@ -79,10 +64,6 @@ module _ (v : ℕ) where
       rw all-of-append
       (both-true (clause-small c (first-true (all-of (literal-within v) c) _ e)) (words-small cs (second-true (all-of (literal-within v) c) _ e)))
 
-  small-pass : (i : ℕ) (ws : List ℤ) → all-of small ws ≡ true → all-of passing (numbered i ws (λ i w. check (small w) (bad-cnf i))) ≡ true
-  small-pass i [] e = refl
-  small-pass i (w ∷ ws) e = both-true (first-true (small w) _ e) (small-pass (suc i) ws (second-true (small w) _ e))
-
 module _ (p : Problem) (proper : Proper p) where
   cnf-back : clauses-of (cnf-words p) ≡ cnf p
   unfolding cnf-words
@@ -91,9 +72,9 @@ module _ (p : Problem) (proper : Proper p) where
   cnf-passes : CnfRight (variables p) (cnf-words p)
   unfolding cnf-checks cnf-words
   cnf-passes =
-      both-true (leb-if-le _ _ (variables-fit p proper))
+      both-true (le-leb _ _ (variables-fit p proper))
       (all-of-append passing (numbered 0 (words-of (cnf p)) (λ i w. check (small (variables p) w) (bad-cnf i))) _
-      ∙ both-true (small-pass (variables p) 0 (words-of (cnf p)) (words-small (variables p) (cnf p) (literals-within p proper)))
+      ∙ both-true (numbered-passing (small (variables p)) bad-cnf 0 (words-of (cnf p)) ∙ words-small (variables p) (cnf p) (literals-within p proper))
       (both-true (words-ended (cnf p)) refl))
 
   pub judged-as-clauses : (refutation : List ℤ) (m n : ℕ)
@@ -142,12 +123,9 @@ module _ (version : ℕ) (ws : List ℕ) (refutation : List ℤ) (room numbers c
   answer-here = judge-refutation version ws refutation room numbers clauses
 
   pub problem-refused : {f : Refusal} → CountedAs version ws (Refused f) → Refuses (answers.Problem f)
-  unfolding check-problem judge-refutation
+  unfolding judge-refutation
   problem-refused {f} g = record {
-    answered =
-        g .answered
-        ∙ not-well-formed version ws (granted 0) _
-        (λ w. refusal-not-yes f (ap (λ (a : Answer). a .number) (g .answered ∙ checked-if-well-formed version ws (granted 0) w)));
+    answered = refused-whatever version ws f _ (g .answered);
     unchanged = refusal-unchanged f;
   }
 
@@ -179,7 +157,7 @@ module _ (version : ℕ) (ws : List ℕ) (refutation : List ℤ) (room numbers c
       words-refused e = record {
         answered =
             refused-anyway (refutation-checks (n .variables) (n .clauses) refutation) _ _ e
-            (λ f. let z : _≡_ {A = ℕ} 11 0 = ap (λ (x : Answer). x .number) f in omega arith)
+            (λ f. let z : _≡_ {A = ℕ} 11 0 = number-of f in omega arith)
             ∙ sym past-counts;
         unchanged = refl;
       }

@@ -1,6 +1,4 @@
--- How long a CNF's text can be, so that a caller can lend room enough; up to 2^60 words its size is its length.
--- Assumes nothing.
-use mathlib.Core.Path.{_≡_}
+-- How long a CNF's text can be, so that a caller can lend room enough. Assumes nothing.
 use mathlib.Core.List.{List, [], _∷_}
 use Prim.Native.Nat.{ℕ, zero, suc, _+_, _*_, _^_, _≤_, _<_, zero-le, suc-le-suc}
 use native.Mathlib.Omega.{arith}
@@ -10,7 +8,6 @@ use mir.Syntax.{w32}
 use mir.Val.{SFits}
 use Rattle.meaning.specs.JobFile.{bytes-of, decimal, header-line}
 use Rattle.checker.specs.Text.{word-text, words-text, flat-text}
-use Rattle.checker.specs.Promise.{largest-size, size}
 use Rattle.checker.proofs.Decimals.{length-within}
 use Rattle.checker.proofs.Printing.{length-header}
 
@@ -38,7 +35,3 @@ module _ (v c : ℕ) (ws : List ℤ) (hv : v < 2 ^ 32) (hc : c < 2 ^ 32) (f : Wo
       let dv = length-within 9 v (omega arith) in
       let dc = length-within 9 c (omega arith) in
       omega (arith, words-within ws f, length-header v c, length-append (header-line v c) (words-text ws))
-
-  pub size-is-length : length ws ≤ 2 ^ 60 → size (flat-text v c ws) ≡ length (flat-text v c ws)
-  unfolding largest-size
-  size-is-length h = omega (arith, flat-within)

@@ -5,7 +5,7 @@ use Prim.Native.Nat.{ℕ}
 use native.Mathlib.Omega.{arith}
 use lib.ListN.{take}
 use lib.Seq.{take-append-seam}
-use Rattle.clauses.specs.Answers.{Answer}
+use Rattle.clauses.proofs.Answers.{number-of, place-of}
 use Rattle.checker.specs.declared.job.Job.{Job}
 use Rattle.checker.specs.declared.job.JobAnswer.{JobAnswer}
 use Rattle.checker.specs.declared.job.JobAnswer.the-variants.{Good, Bad}
@@ -16,9 +16,9 @@ use Rattle.checker.specs.Promise.{job-answered, words-read, JobRead, Pri
 
 answer-unique : (a b : JobAnswer) → job-answered a ≡ job-answered b → a ≡ b
 answer-unique Good Good e = refl
-answer-unique Good (Bad p) e = let z : _≡_ {A = ℕ} 0 15 = ap (λ (x : Answer). x .number) e in absurd (omega arith)
-answer-unique (Bad p) Good e = let z : _≡_ {A = ℕ} 15 0 = ap (λ (x : Answer). x .number) e in absurd (omega arith)
-answer-unique (Bad p) (Bad q) e = ap Bad (ap (λ (x : Answer). x .place) e)
+answer-unique Good (Bad p) e = let z : _≡_ {A = ℕ} 0 15 = number-of e in absurd (omega arith)
+answer-unique (Bad p) Good e = let z : _≡_ {A = ℕ} 15 0 = number-of e in absurd (omega arith)
+answer-unique (Bad p) (Bad q) e = ap Bad (place-of e)
 
 abbrev job-of : JobAnswer → ℕ → ℕ → List ℕ → Job
 job-of a v n ws = record { answer = a; version = v; count = n; words = ws }

@@ -1,17 +1,25 @@
 -- Laws of the order of checks: what an answer of yes says of them. Assumes nothing.
 use mathlib.Core.Path.{_≡_, refl, sym, _∙_, ap}
-use mathlib.Core.Bool.{Bool, true, false, not, cond, true≢false}
+use mathlib.Core.Bool.{Bool, true, false, not, cond, true≢false, _&&_}
 use mathlib.Core.List.{List, [], _∷_, _++_}
 use Prim.Native.Nat.{ℕ, suc}
 use lib.IntN.{ℤ}
 use lib.Dec.{eqb}
 use lib.ListN.{length}
-use Rattle.clauses.specs.Lists.{all-of}
+use Rattle.clauses.specs.Lists.{all-of, numbered}
 use Rattle.clauses.specs.Answers.{Answer, Check, check, first-failing, granted, not-closed}
 use Rattle.clauses.specs.Clauses.{Clause}
 use Rattle.clauses.specs.CnfWords.{clauses-of, cnf-checks}
-use Rattle.clauses.specs.Refutations.{Step, Part, literals, part-after, own-after, word-checks, refutation-checks, step-checks, area-checks, steps-of, last-is-empty, judge-steps, judge-clauses, judge-cnf}
+use Rattle.clauses.specs.Refutations.{Step, Part, literals, part-after, own-after, word-checks, refutation-checks, step-checks, area-checks, steps-of, last-is-empty, judge-steps, judge-clauses, judge-cnf, word-right}
 use Rattle.clauses.proofs.Satisfaction.{both-true, first-true, second-true, all-of-append, all-of-first, all-of-second, all-of-numbered}
+
+-- ════════ Answers ════════
+
+pub number-of : {a b : Answer} → a ≡ b → a .number ≡ b .number
+number-of e = ap (λ (x : Answer). x .number) e
+
+pub place-of : {a b : Answer} → a ≡ b → a .place ≡ b .place
+place-of e = ap (λ (x : Answer). x .place) e
 
 -- ════════ The order of checks ════════
 
@@ -46,12 +54,18 @@ all-pass-if-yes (c ∷ cs) after r e =
 
 pub all-pass-if-granted : (cs : List Check) (after : Answer) {p : ℕ} → all-of refusing cs ≡ true
     → first-failing cs after ≡ granted p → all-of passing cs ≡ true
-all-pass-if-granted cs after r e = all-pass-if-yes cs after r (ap (λ (x : Answer). x .number) e)
+all-pass-if-granted cs after r e = all-pass-if-yes cs after r (number-of e)
 
 -- And it is the answer of what comes after them.
 pub after-if-granted : (cs : List Check) (after : Answer) {p : ℕ} → all-of refusing cs ≡ true
     → first-failing cs after ≡ granted p → after ≡ granted p
 after-if-granted cs after r e = sym (first-failing-passed cs after (all-pass-if-granted cs after r e)) ∙ e
+
+-- Numbered elements that are checked by one test pass where each passes it.
+pub numbered-passing : {A : Type 0} (t : A → Bool) (a : ℕ → Answer) (i : ℕ) (xs : List A)
+    → all-of passing (numbered i xs (λ j x. check (t x) (a j))) ≡ all-of t xs
+numbered-passing t a i [] = refl
+numbered-passing t a i (x ∷ xs) = rw (numbered-passing t a (suc i) xs)
 
 -- ════════ The judges' checks ════════
 
@@ -62,6 +76,17 @@ cnf-checks-refusing variables ws = rw all-of-append (both-true (all-of-numbered 
 pub word-checks-refusing : (variables : ℕ) (p : Part) (own i : ℕ) (ws : List ℤ) → all-of refusing (word-checks variables p own i ws) ≡ true
 word-checks-refusing variables p own i [] = refl
 word-checks-refusing variables p own i (w ∷ ws) = word-checks-refusing variables (part-after p w) (own-after p own w) (suc i) ws
+
+-- What 11 asks of each word, without the places of its answers.
+abbrev pub words-right : ℕ → Part → ℕ → List ℤ → Bool
+words-right variables p own [] = true
+words-right variables p own (w ∷ ws) =
+    word-right variables p own w && words-right variables (part-after p w) (own-after p own w) ws
+
+pub words-right-is : (variables : ℕ) (p : Part) (own i : ℕ) (ws : List ℤ)
+    → all-of passing (word-checks variables p own i ws) ≡ words-right variables p own ws
+words-right-is variables p own i [] = refl
+words-right-is variables p own i (w ∷ ws) = rw (words-right-is variables (part-after p w) (own-after p own w) (suc i) ws)
 
 pub refutation-checks-refusing : (variables C : ℕ) (ws : List ℤ) → all-of refusing (refutation-checks variables C ws) ≡ true
 unfolding refutation-checks

@@ -13,10 +13,11 @@ use Rattle.clauses.specs.Lists.{all-of}
 use Rattle.clauses.specs.Answers.{Answer, Check, first-failing, granted}
 use Rattle.clauses.specs.Clauses.{Clause, variable-of, literal-within}
 use Rattle.clauses.specs.CnfWords.{ended-by-0}
-use Rattle.clauses.specs.Refutations.{Step, step, words-of-steps, Part, literals, hints, part-after, own-after, word-right, word-checks, refutation-checks, step-accepted, clauses-after, step-checks, last-is-empty, last-is-empty-after, judge-steps}
+use Rattle.clauses.specs.Refutations.{Step, step, words-of-steps, Part, literals, hints, word-checks, refutation-checks, step-accepted, clauses-after, step-checks, last-is-empty, last-is-empty-after, judge-steps}
 use Rattle.clauses.specs.Refutable.{Refutation}
-use Rattle.clauses.proofs.Satisfaction.{both-true, first-true, second-true, all-of-member, all-of-if-member}
-use Rattle.clauses.proofs.ReadBack.{not-0, StepsNoZeros, step-first, steps-back, steps-whole}
+use Rattle.clauses.proofs.Satisfaction.{both-true, first-true, second-true, all-of-weaker}
+use Rattle.clauses.proofs.ReadBack.{not-0, StepsNoZeros, step-first, steps-back, steps-whole, within-not-0}
+use Rattle.clauses.proofs.Answers.{first-failing-append, first-failing-passed, words-right, words-right-is}
 
 -- ════════ Clauses after steps ════════
 
@@ -95,24 +96,12 @@ module _ (variables : ℕ) (rest : List Check) (after : Answer) where
 
 -- ════════ The words of right steps are right ════════
 
--- Each word is right where it stands.
-abbrev words-right : ℕ → Part → ℕ → List ℤ → Bool
-words-right variables p own [] = true
-words-right variables p own (w ∷ ws) =
-    word-right variables p own w && words-right variables (part-after p w) (own-after p own w) ws
-
-all-of-weaker : {A : Type 0} (f g : A → Bool) → ((x : A) → f x ≡ true → g x ≡ true)
-    → (xs : List A) → all-of f xs ≡ true → all-of g xs ≡ true
-all-of-weaker f g h xs e = all-of-if-member g xs (λ x m. h x (all-of-member f m e))
-
 module _ (variables : ℕ) where
   word-checks-pass : (p : Part) (own i : ℕ) (ws : List ℤ) (rest : List Check) (after : Answer) → words-right variables p own ws ≡ true
       → first-failing (word-checks variables p own i ws ++ rest) after ≡ first-failing rest after
-  word-checks-pass p own i [] rest after e = refl
-  word-checks-pass p own i (w ∷ ws) rest after e =
-      rw (first-true (word-right variables p own w) (words-right variables (part-after p w) (own-after p own w) ws) e)
-      (word-checks-pass (part-after p w) (own-after p own w) (suc i) ws rest after
-      (second-true (word-right variables p own w) (words-right variables (part-after p w) (own-after p own w) ws) e))
+  word-checks-pass p own i ws rest after e =
+      first-failing-append (word-checks variables p own i ws) rest after
+      ∙ first-failing-passed (word-checks variables p own i ws) (first-failing rest after) (words-right-is variables p own i ws ∙ e)
 
   small-literal : (w : ℤ) (c : Clause) → all-of (literal-within variables) (w ∷ c) ≡ true → leb (variable-of w) variables ≡ true
   small-literal w c e =
@@ -154,17 +143,12 @@ module _ (variables : ℕ) where
       )
       (steps-right (clauses-after cs s) ss (r .1))
 
-  within-not-0 : (w : ℤ) → literal-within variables w ≡ true → not-0 w ≡ true
-  within-not-0 (pos zero) e = e
-  within-not-0 (pos (suc n)) e = refl
-  within-not-0 (negsuc n) e = refl
-
   right-no-zeros : (cs : List Clause) (ss : List Step) → RightSteps variables cs ss → StepsNoZeros ss
   right-no-zeros cs [] r = refl
   right-no-zeros cs (s ∷ ss) r = both-true (both-true no-0 at-least-1) (right-no-zeros (clauses-after cs s) ss (r .1))
     where
       no-0 : all-of not-0 (s .clause) ≡ true
-      no-0 = all-of-weaker (literal-within variables) not-0 within-not-0 (s .clause) (r .0 .within)
+      no-0 = all-of-weaker (literal-within variables) not-0 (within-not-0 variables) (s .clause) (r .0 .within)
 
       at-least-1 : all-of (leb 1) (s .hints) ≡ true
       at-least-1 =

@@ -1,6 +1,7 @@
 -- What follows from the definitions of specs/.
 pub mod Satisfaction
 pub mod Signs
+pub mod PutAt
 pub mod Answers
 pub mod Sound
 pub mod ReadBack

@@ -1,16 +1,19 @@
 -- Words and what they are read as: clauses and steps written as words are read back, and words that are not cut short are written back.
 -- Assumes nothing.
 use mathlib.Core.Path.{_≡_, refl, sym, _∙_, ap}
-use mathlib.Core.Bool.{Bool, true, false, not, _&&_, false≢true}
+use mathlib.Core.Bool.{Bool, true, not, _&&_, false≢true}
 use mathlib.Core.List.{List, [], _∷_, _++_, map, append-assoc}
-use Prim.Native.Nat.{ℕ, zero, suc}
+use Prim.Native.Nat.{ℕ, zero, suc, _<_, zero-le, suc-le-suc}
+use native.Mathlib.Nat.{not-suc-le-zero}
+use borrow.Author.Tests.{not-true}
 use lib.IntN.{ℤ, pos, negsuc}
 use lib.Dec.{leb}
-use Rattle.clauses.specs.Lists.{all-of, empty}
-use Rattle.clauses.specs.Clauses.{Clause, variable-of}
+use lib.ListN.{length}
+use Rattle.clauses.specs.Lists.{all-of}
+use Rattle.clauses.specs.Clauses.{Clause, variable-of, literal-within, Within}
 use Rattle.clauses.specs.CnfWords.{ended-by-0, words-of, in-front, clauses-of, is-0, ended-after, ended}
 use Rattle.clauses.specs.Refutations.{Step, steps-of, step-words, words-of-steps, Part, literals, hints, other, part-at-end, whole}
-use Rattle.clauses.proofs.Satisfaction.{first-true, second-true, not-true, not-both}
+use Rattle.clauses.proofs.Satisfaction.{first-true, second-true, not-both, all-of-weaker}
 
 -- ════════ Words that are no 0 ════════
 
@@ -20,6 +23,16 @@ not-0 w = not (is-0 w)
 -- No literal is the word 0.
 abbrev pub NoZeros : List Clause → Type 0
 NoZeros cs = all-of (all-of (λ w. not (is-0 w))) cs ≡ true
+
+pub within-not-0 : (variables : ℕ) (w : ℤ) → literal-within variables w ≡ true → not-0 w ≡ true
+within-not-0 variables (pos zero) e = e
+within-not-0 variables (pos (suc n)) e = refl
+within-not-0 variables (negsuc n) e = refl
+
+pub within-no-zeros : (variables : ℕ) (cs : List Clause) → Within variables cs → NoZeros cs
+within-no-zeros variables =
+    all-of-weaker (all-of (literal-within variables)) (all-of not-0)
+    (all-of-weaker (literal-within variables) not-0 (within-not-0 variables))
 
 -- ════════ Clauses read back ════════
 
@@ -55,18 +68,19 @@ words-ended (c ∷ cs) = ended-clause c (words-of cs) ∙ words-ended cs
 
 -- ════════ Words written back ════════
 
-some-clause-in-front : (w : ℤ) (cs : List Clause) → empty (in-front w cs) ≡ false
-some-clause-in-front w [] = refl
-some-clause-in-front w (c ∷ cs) = refl
+some-in-front : (w : ℤ) (cs : List Clause) → 0 < length (in-front w cs)
+some-in-front w [] = suc-le-suc zero-le
+some-in-front w (c ∷ cs) = suc-le-suc zero-le
 
-some-clause : (w : ℤ) (ws : List ℤ) → empty (clauses-of (w ∷ ws)) ≡ false
-some-clause (pos zero) ws = refl
-some-clause (pos (suc n)) ws = some-clause-in-front (pos (suc n)) (clauses-of ws)
-some-clause (negsuc n) ws = some-clause-in-front (negsuc n) (clauses-of ws)
+-- Where a word stands, a clause does.
+pub some-clause : (w : ℤ) (ws : List ℤ) → 0 < length (clauses-of (w ∷ ws))
+some-clause (pos zero) ws = suc-le-suc zero-le
+some-clause (pos (suc n)) ws = some-in-front (pos (suc n)) (clauses-of ws)
+some-clause (negsuc n) ws = some-in-front (negsuc n) (clauses-of ws)
 
-words-in-front : (w : ℤ) (cs : List Clause) → empty cs ≡ false → words-of (in-front w cs) ≡ w ∷ words-of cs
-words-in-front w [] e = absurd (false≢true (sym e))
-words-in-front w (c ∷ cs) e = refl
+words-in-front : (w : ℤ) (cs : List Clause) → 0 < length cs → words-of (in-front w cs) ≡ w ∷ words-of cs
+words-in-front w [] l = absurd (not-suc-le-zero l)
+words-in-front w (c ∷ cs) l = refl
 
 -- A literal, and the words after it.
 literal-written-back : (w : ℤ) (ws : List ℤ) → not-0 w ≡ true → ended-after w ws ≡ true

@@ -2,25 +2,18 @@
 use mathlib.Core.Path.{_≡_, refl, sym, _∙_, ap}
 use mathlib.Core.Logic.{_⊎_, inl, inr}
 use mathlib.Core.Bool.{Bool, true, false, not, _&&_, _||_, false≢true, true≢false, and-assoc, or-assoc, Bool·not-not, cond}
-use mathlib.Core.List.{List, [], _∷_, _++_, map, List·Memᴰ, List·Memᴰ·head, List·Memᴰ·tail, Memᴰ·cast}
-use Prim.Native.Nat.{ℕ, zero, suc, _<_, _≤_, zero-le, suc-le-suc}
+use mathlib.Core.List.{List, [], _∷_, _++_, map, List·Memᴰ, List·Memᴰ·head, List·Memᴰ·tail, List·Memᴰ·cases-cons, Memᴰ·cast}
+use Prim.Native.Nat.{ℕ, zero, suc, _<_, zero-le, suc-le-suc}
 use native.Mathlib.Nat.{le-of-suc-le-suc, not-suc-le-zero}
+use borrow.Author.Tests.{not-true, eqb-true, eq-eqb}
 use lib.IntN.{ℤ, pos, negsuc, negℤ-negℤ}
-use lib.Dec.{T, leb, eqb, leb→le, le→leb, eqb→eq, eqb-refl}
+use lib.Dec.{eqb}
 use lib.ListN.{getD, length}
 use Rattle.clauses.specs.Lists.{some-of, all-of, those, numbered}
-use Rattle.clauses.specs.Clauses.{Clause, Assignment, negated, literal-true, clause-true, Satisfies, same, among}
+use Rattle.clauses.specs.Clauses.{Clause, Assignment, negated, variable-of, literal-true, clause-true, Satisfies, same, among}
 use Rattle.clauses.specs.CnfWords.{is-0}
 
 -- ════════ Tests ════════
-
-pub true-if-test : {b : Bool} → T b → b ≡ true
-true-if-test {b = true} t = refl
-true-if-test {b = false} t = absurd t
-
-pub test-if-true : {b : Bool} → b ≡ true → T b
-test-if-true {b = true} e = tt
-test-if-true {b = false} e = absurd (false≢true e)
 
 pub both-true : {a b : Bool} → a ≡ true → b ≡ true → a && b ≡ true
 both-true p q = rw (p, q)
@@ -44,18 +37,6 @@ pub or-second : (a : Bool) {b : Bool} → b ≡ true → a || b ≡ true
 or-second true p = refl
 or-second false p = p
 
-pub neither-first : (a b : Bool) → a || b ≡ false → a ≡ false
-neither-first true b e = e
-neither-first false b e = refl
-
-pub neither-second : (a b : Bool) → a || b ≡ false → b ≡ false
-neither-second true b e = absurd (true≢false e)
-neither-second false b e = e
-
-pub not-true : (b : Bool) → not b ≡ true → b ≡ false
-not-true true e = sym e
-not-true false e = refl
-
 pub not-both : {b : Bool} → b ≡ true → b ≡ false → ⊥
 not-both p q = true≢false (sym p ∙ q)
 
@@ -63,17 +44,8 @@ pub false-if-not-true : (b : Bool) → (b ≡ true → ⊥) → b ≡ false
 false-if-not-true true h = absurd (h refl)
 false-if-not-true false h = refl
 
-pub le-if-leb : (m n : ℕ) → leb m n ≡ true → m ≤ n
-le-if-leb m n e = leb→le m n (test-if-true e)
-
-pub leb-if-le : (m n : ℕ) → m ≤ n → leb m n ≡ true
-leb-if-le m n h = true-if-test (le→leb m n h)
-
-pub eq-if-eqb : (m n : ℕ) → eqb m n ≡ true → m ≡ n
-eq-if-eqb m n e = eqb→eq m n (test-if-true e)
-
 pub eqb-self : (n : ℕ) → eqb n n ≡ true
-eqb-self n = true-if-test (eqb-refl n)
+eqb-self n = eq-eqb n n refl
 
 -- ════════ Tests on lists ════════
 
@@ -139,6 +111,12 @@ module _ {A : Type 0} (f : A → Bool) where
       go (inl p) later = (x, List·Memᴰ·head refl, p)
       go (inr q) later = let w = later q in (w .0, List·Memᴰ·tail (w .1), w .2)
 
+  -- An element that passes one test passes the other.
+  pub all-of-weaker : (g : A → Bool) → ((x : A) → f x ≡ true → g x ≡ true) → (xs : List A) → all-of f xs ≡ true → all-of g xs ≡ true
+  all-of-weaker g h [] e = refl
+  all-of-weaker g h (x ∷ xs) e =
+      both-true (h x (first-true (f x) (all-of f xs) e)) (all-of-weaker g h xs (second-true (f x) (all-of f xs) e))
+
   pub none-of-member : {x : A} {xs : List A} → List·Memᴰ x xs → some-of f xs ≡ false → f x ≡ false
   none-of-member {x} m e = false-if-not-true (f x) (λ p. not-both (some-of-member m p) e)
 
@@ -150,6 +128,27 @@ module _ {A : Type 0} (f : A → Bool) where
       in-either : (b : Bool) {x : A} {xs : List A} → List·Memᴰ x xs → List·Memᴰ x (cond b (y ∷ xs) xs)
       in-either true m′ = List·Memᴰ·tail m′
       in-either false m′ = m′
+
+  pub of-those : {x : A} (xs : List A) → List·Memᴰ x (those f xs) → List·Memᴰ x xs
+  of-those [] m = m
+  of-those {x} (y ∷ xs) m = go (f y) m (λ (q : List·Memᴰ x (those f xs)). of-those xs q)
+    where
+      there : (List·Memᴰ x (those f xs) → List·Memᴰ x xs) → (x ≡ y) ⊎ List·Memᴰ x (those f xs) → List·Memᴰ x (y ∷ xs)
+      there later (inl e) = List·Memᴰ·head e
+      there later (inr q) = List·Memᴰ·tail (later q)
+
+      go : (b : Bool) → List·Memᴰ x (cond b (y ∷ those f xs) (those f xs)) → (List·Memᴰ x (those f xs) → List·Memᴰ x xs)
+          → List·Memᴰ x (y ∷ xs)
+      go true q later = there later (List·Memᴰ·cases-cons q)
+      go false q later = List·Memᴰ·tail (later q)
+
+  pub those-append : (xs ys : List A) → those f (xs ++ ys) ≡ those f xs ++ those f ys
+  those-append [] ys = refl
+  those-append (x ∷ xs) ys = rw (those-append xs ys) (go (f x))
+    where
+      go : (b : Bool) → cond b (x ∷ (those f xs ++ those f ys)) (those f xs ++ those f ys) ≡ cond b (x ∷ those f xs) (those f xs) ++ those f ys
+      go true = refl
+      go false = refl
 
   pub those-pass : (xs : List A) → all-of f (those f xs) ≡ true
   those-pass [] = refl
@@ -180,10 +179,10 @@ same-self (pos n) = eqb-self n
 same-self (negsuc n) = eqb-self n
 
 pub eq-if-same : (w v : ℤ) → same w v ≡ true → w ≡ v
-eq-if-same (pos m) (pos n) e = ap pos (eq-if-eqb m n e)
+eq-if-same (pos m) (pos n) e = ap pos (eqb-true m n e)
 eq-if-same (pos m) (negsuc n) e = absurd (false≢true e)
 eq-if-same (negsuc m) (pos n) e = absurd (false≢true e)
-eq-if-same (negsuc m) (negsuc n) e = ap negsuc (eq-if-eqb m n e)
+eq-if-same (negsuc m) (negsuc n) e = ap negsuc (eqb-true m n e)
 
 pub among-if-member : {w : ℤ} {ws : List ℤ} → List·Memᴰ w ws → among w ws ≡ true
 among-if-member {w} m = some-of-member (same w) m (same-self w)
@@ -198,6 +197,11 @@ pub negated-0 : (w : ℤ) → is-0 w ≡ true → negated w ≡ w
 negated-0 (pos zero) e = refl
 negated-0 (pos (suc n)) e = absurd (false≢true e)
 negated-0 (negsuc n) e = absurd (false≢true e)
+
+pub variable-of-negated : (w : ℤ) → variable-of (negated w) ≡ variable-of w
+variable-of-negated (pos zero) = refl
+variable-of-negated (pos (suc n)) = refl
+variable-of-negated (negsuc n) = refl
 
 module _ (a : Assignment) where
   pub literal-true-negated : (w : ℤ) → is-0 w ≡ false → literal-true a (negated w) ≡ not (literal-true a w)

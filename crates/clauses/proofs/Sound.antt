@@ -4,6 +4,7 @@ use mathlib.Core.Logic.{_⊎_, inl, inr}
 use mathlib.Core.Bool.{Bool, true, false, not, cond, _&&_, false≢true}
 use mathlib.Core.List.{List, [], _∷_, map, List·Memᴰ, List·Memᴰ·not-nil, List·Memᴰ·cases-cons}
 use Prim.Native.Nat.{ℕ, zero, suc}
+use borrow.Author.Tests.{leb-true, not-true}
 use lib.IntN.{ℤ}
 use lib.Dec.{leb}
 use lib.ListN.{length}
@@ -12,7 +13,7 @@ use Rattle.clauses.specs.Answers.{granted}
 use Rattle.clauses.specs.Clauses.{Clause, Assignment, Satisfies, literal-true, clause-true, negated, same, among}
 use Rattle.clauses.specs.CnfWords.{clauses-of, is-0}
 use Rattle.clauses.specs.Refutations.{Step, Outcome, conflict, unit, neither, both-signs, not-false, outcome-of, outcome, clause-numbered, hint-outcome, hints-conflict, step-accepted, clauses-after, step-checks, last-is-empty, judge-steps, judge-clauses, judge-cnf, steps-of}
-use Rattle.clauses.proofs.Satisfaction.{both-true, first-true, second-true, not-true, not-both, false-if-not-true, le-if-leb, all-of-member, all-of-if-member, all-of-map, none-of-member, those-member, eq-if-same, among-if-member, member-if-among, negated-0, literal-true-negated, not-true-both-ways, satisfies-append, clause-at-true, true-literal, false-literal}
+use Rattle.clauses.proofs.Satisfaction.{both-true, first-true, second-true, not-both, false-if-not-true, all-of-member, all-of-if-member, all-of-map, none-of-member, those-member, eq-if-same, among-if-member, member-if-among, negated-0, literal-true-negated, not-true-both-ways, satisfies-append, clause-at-true, true-literal, false-literal}
 use Rattle.clauses.proofs.Answers.{passing, steps-granted, clauses-granted, cnf-granted}
 
 -- ════════ What a hint gives is true ════════
@@ -27,7 +28,7 @@ Holds a neither = Unit
 numbered-true : (a : Assignment) (cs : List Clause) (h : ℕ) → Satisfies a cs → leb 1 h && leb h (length cs) ≡ true
     → clause-true a (clause-numbered cs h) ≡ true
 numbered-true a cs zero s e = absurd (false≢true e)
-numbered-true a cs (suc n) s e = clause-at-true a cs n s (le-if-leb (suc n) (length cs) (second-true (leb 1 (suc n)) _ e))
+numbered-true a cs (suc n) s e = clause-at-true a cs n s (leb-true (suc n) (length cs) (second-true (leb 1 (suc n)) _ e))
 
 module _ (a : Assignment) (trues : List ℤ) (are-true : all-of (literal-true a) trues ≡ true) where
   -- A true literal is not false by what is set.

@@ -6,13 +6,14 @@ use mathlib.Core.List.{List, [], _∷_, map, List·Memᴰ, List·Memᴰ·head, L
 use Prim.Native.Nat.{ℕ, zero, suc, _+_, _≤_, _<_}
 use native.Mathlib.Nat.{le-refl, not-suc-le-zero, le-of-suc-le-suc, add-zero, zero-add}
 use native.Mathlib.Omega.{arith}
+use borrow.Author.Tests.{leb-true, le-leb}
 use lib.IntN.{ℤ, pos, negsuc, pos-ne-negsuc}
 use lib.Dec.{leb}
 use lib.ListN.{length, getD}
 use Rattle.clauses.specs.Lists.{all-of}
 use Rattle.clauses.specs.Clauses.{Clause, Assignment, negated, variable-of, literal-true, clause-true, literal-within, among}
 use Rattle.clauses.specs.Refutations.{step, both-signs, not-false, unit, outcome-of, outcome, hint-outcome, hints-conflict, step-accepted}
-use Rattle.clauses.proofs.Satisfaction.{both-true, second-true, false-if-not-true, le-if-leb, leb-if-le, some-of-witness, all-of-member, negated-negated, among-if-member, member-if-among, false-literal}
+use Rattle.clauses.proofs.Satisfaction.{both-true, second-true, false-if-not-true, some-of-witness, all-of-member, negated-negated, among-if-member, member-if-among, false-literal, variable-of-negated}
 use Rattle.clauses.proofs.Derivations.{names-one-of, RightStep}
 
 -- ════════ The clause that denies values ════════
@@ -31,11 +32,6 @@ variable-of-denial : (i : ℕ) (b : Bool) → variable-of (denial i b) ≡ suc i
 variable-of-denial i true = refl
 variable-of-denial i false = refl
 
-variable-of-negated : (w : ℤ) → variable-of (negated w) ≡ variable-of w
-variable-of-negated (pos zero) = refl
-variable-of-negated (pos (suc n)) = refl
-variable-of-negated (negsuc n) = refl
-
 denials-above : (i : ℕ) (bs : List Bool) {w : ℤ} → List·Memᴰ w (denials i bs) → i < variable-of w
 denials-above i [] m = absurd (List·Memᴰ·not-nil m)
 denials-above i (b ∷ bs) {w} m = go (List·Memᴰ·cases-cons m) (λ m′. denials-above (suc i) bs m′)
@@ -49,7 +45,7 @@ pub denials-within : (variables i : ℕ) (bs : List Bool) → i + length bs ≤ 
     → all-of (literal-within variables) (denials i bs) ≡ true
 denials-within variables i [] l = refl
 denials-within variables i (b ∷ bs) l =
-    rw (variable-of-denial i b, leb-if-le 1 (suc i) (omega arith), leb-if-le (suc i) variables (omega arith))
+    rw (variable-of-denial i b, le-leb 1 (suc i) (omega arith), le-leb (suc i) variables (omega arith))
     (denials-within variables (suc i) bs (omega arith))
 
 -- ════════ No variable with both signs ════════
@@ -115,7 +111,7 @@ no-value-yet i bs w l = false-if-not-true (among w (map negated (denials i bs)))
 
 module _ (cs : List Clause) (trues : List ℤ) (n : ℕ) (l : n < length cs) where
   names-clause : names-one-of (length cs) (suc n) ≡ true
-  names-clause = both-true (leb-if-le 1 (suc n) (omega arith)) (leb-if-le (suc n) (length cs) l)
+  names-clause = both-true (le-leb 1 (suc n) (omega arith)) (le-leb (suc n) (length cs) l)
 
   hint-taken : hint-outcome cs trues (suc n) ≡ outcome trues (getD cs n [])
   hint-taken = rw names-clause
@@ -141,10 +137,10 @@ value-denied i (suc v) (b ∷ bs) l =
 false-literal-denied : (a : Assignment) (w : ℤ) → literal-within (length a) w ≡ true → literal-true a w ≡ false → List·Memᴰ w (denials 0 a)
 false-literal-denied a (pos zero) e f = absurd (false≢true e)
 false-literal-denied a (pos (suc v)) e f =
-    let m = value-denied 0 v a (le-if-leb (suc v) (length a) (second-true (leb 1 (suc v)) (leb (suc v) (length a)) e)) in
+    let m = value-denied 0 v a (leb-true (suc v) (length a) (second-true (leb 1 (suc v)) (leb (suc v) (length a)) e)) in
     rw (zero-add, f) at m
 false-literal-denied a (negsuc v) e f =
-    let m = value-denied 0 v a (le-if-leb (suc v) (length a) (second-true (leb 1 (suc v)) (leb (suc v) (length a)) e)) in
+    let m = value-denied 0 v a (leb-true (suc v) (length a) (second-true (leb 1 (suc v)) (leb (suc v) (length a)) e)) in
     rw (zero-add, sym (Bool·not-not (getD a v false)) ∙ ap not f) at m
 
 module _ (variables : ℕ) (cs : List Clause) where

@@ -1,6 +1,6 @@
 -- Document 01, "Answers": a number and a place, and the order of checks. The rows that a bare CNF and its refutation can meet.
 -- Assumes nothing.
-use mathlib.Core.Bool.{Bool, true, false, cond}
+use mathlib.Core.Bool.{Bool, cond}
 use mathlib.Core.List.{List, [], _∷_}
 use Prim.Native.Nat.{ℕ}
 

@@ -26,11 +26,17 @@ T-cnf =
     ∷ []
 
 -- "Refutation 0 2 12 5 0 is accepted"
-T-refuted : judge-cnf 6 T-cnf (pos 0 ∷ pos 2 ∷ pos 12 ∷ pos 5 ∷ pos 0 ∷ []) 7 13 ≡ answer 0 0
+abbrev pub T-steps : List ℤ
+T-steps = pos 0 ∷ pos 2 ∷ pos 12 ∷ pos 5 ∷ pos 0 ∷ []
+
+T-refuted : judge-cnf 6 T-cnf T-steps 7 13 ≡ answer 0 0
 unfolding judge-cnf judge-clauses judge-steps refutation-checks area-checks step-accepted cnf-checks variables-limit
 T-refuted = refl
 
 -- "0 12 5 0 is refused (13 at 0)"
-T-refused : judge-cnf 6 T-cnf (pos 0 ∷ pos 12 ∷ pos 5 ∷ pos 0 ∷ []) 7 13 ≡ answer 13 0
+abbrev pub T-other-steps : List ℤ
+T-other-steps = pos 0 ∷ pos 12 ∷ pos 5 ∷ pos 0 ∷ []
+
+T-refused : judge-cnf 6 T-cnf T-other-steps 7 13 ≡ answer 13 0
 unfolding judge-cnf judge-clauses judge-steps refutation-checks area-checks step-accepted cnf-checks variables-limit
 T-refused = refl

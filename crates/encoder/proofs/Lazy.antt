@@ -8,6 +8,7 @@ use borrow.Author.Tests.{le-leb, lt-leb}
 use lib.IntN.{ℤ, pos}
 use lib.ListN.{length, replicate, getD, length-replicate, getD-replicate}
 use Rattle.clauses.specs.Lists.{written}
+use Rattle.clauses.specs.Cases.{T-cnf}
 use Rattle.clauses.specs.Clauses.{negated}
 use Rattle.clauses.specs.Answers.{Answer}
 use Rattle.meaning.specs.Limits.{inputs-limit, latches-limit, gates-limit, nodes-limit, bound-limit}
@@ -15,7 +16,7 @@ use Rattle.meaning.specs.Problem.{problem}
 use Rattle.meaning.specs.Check.{known-version, part-checks, parts-checked, problem-checked}
 use Rattle.meaning.specs.Cnf.{true-literal, false-literal, cnf, cnf-words}
 use Rattle.meaning.specs.Calls.{room-checked, write-cnf, room-after-writing}
-use Rattle.meaning.specs.Cases.{T-words, T-cnf}
+use Rattle.meaning.specs.Cases.{T-words}
 use Rattle.problem.specs.declared.Refusal.the-variants.{BadVersion, BadLiteral}
 use Rattle.encoder.specs.declared.Encoded.{Encoded}
 use Rattle.encoder.specs.declared.Encoded.the-variants.{Written, Problem, RoomTooSmall}

@@ -6,12 +6,13 @@ use mathlib.Core.List.{List, [], _∷_, _++_}
 use Prim.Native.Nat.{ℕ, _+_, _-_, _%_, _^_, _≤_, _<_}
 use native.Mathlib.Nat.{add-sub-of-le}
 use native.Mathlib.Omega.{arith}
+use borrow.Author.Tests.{le-leb}
 use lib.IntN.{ℤ, pos}
 use lib.ListN.{length, replicate, length-replicate, getD-replicate, List·getD-append}
 use lib.Seq.{getD-drop}
 use Rattle.clauses.specs.Lists.{numbers, each, all-of}
 use Rattle.clauses.specs.Answers.{Answer}
-use Rattle.clauses.proofs.Satisfaction.{both-true, leb-if-le}
+use Rattle.clauses.proofs.Satisfaction.{both-true}
 use Rattle.clauses.proofs.Answers.{passing}
 use Rattle.meaning.specs.Limits.{inputs-limit, latches-limit, gates-limit, nodes-limit, bound-limit}
 use Rattle.meaning.specs.Problem.{problem, header, word, latch-place, gate-place, node-place}
@@ -152,14 +153,14 @@ module _ (ws : List ℕ) (zeros : (i : ℕ) → 5 ≤ i → i < node-place (head
       let at = latch-place (header ws) i in
       let next : word ws at ≤ largest-literal (header ws) = omega (arith, zeros at (omega arith) (omega arith)) in
       let reset : word ws (at + 1) ≤ largest-reset = omega (arith, zeros (at + 1) (omega arith) (omega arith)) in
-      both-true (leb-if-le _ _ next) (both-true (leb-if-le _ _ reset) refl)
+      both-true (le-leb _ _ next) (both-true (le-leb _ _ reset) refl)
 
   zero-gates-pass : (j : ℕ) → j < header ws .gates → all-of passing (gate-checks (header ws) ws j) ≡ true
   zero-gates-pass j h =
       let at = gate-place (header ws) j in
       let left : word ws at < gate-limit (header ws) j = omega (arith, zeros at (omega arith) (omega arith)) in
       let right : word ws (at + 1) < gate-limit (header ws) j = omega (arith, zeros (at + 1) (omega arith) (omega arith)) in
-      both-true (leb-if-le _ _ left) (both-true (leb-if-le _ _ right) refl)
+      both-true (le-leb _ _ left) (both-true (le-leb _ _ right) refl)
 
 limits-zeros : (i : ℕ) → 5 ≤ i → i < 2_181 → word limits i ≡ 0
 unfolding limits

@@ -4,9 +4,9 @@ use native.Mathlib.Omega.{arith}
 use lib.IntN.{ℤ, pos, negsuc, _-ℤ_, +ℤ-idl}
 use mir.Syntax.{w32}
 use mir.Val.{SFits, toZ, ofZ}
-use mir.Facts.{toZ-ofZ}
 use Rattle.clauses.specs.Clauses.{negated}
-use Rattle.meaning.proofs.Within.{variable-of-negated}
+use Rattle.clauses.proofs.Satisfaction.{variable-of-negated}
+use Rattle.clauses.proofs.Signs as Signs
 use Rattle.encoder.specs.Work.{Negatable}
 
 fits-word : (x : ℤ) → Negatable x → SFits w32 x
@@ -18,7 +18,7 @@ module _ {x : ℤ} (h : Negatable x) where
   negated-negatable = record { fits = rw variable-of-negated (h .fits) }
 
   pub word-is : toZ w32 (ofZ w32 x) ≡ x
-  word-is = toZ-ofZ (fits-word x h)
+  word-is = Signs.word-is x (fits-word x h)
 
   pub passes : Negatable (toZ w32 (ofZ w32 x))
   passes = rw word-is h
@@ -31,7 +31,7 @@ module _ {x : ℤ} (h : Negatable x) where
   turned-fits = rw turned-is (fits-word (negated x) negated-negatable)
 
   pub negation-is : toZ w32 (ofZ w32 (pos 0 -ℤ x)) ≡ negated x
-  negation-is = rw (+ℤ-idl (negated x)) (toZ-ofZ (fits-word (negated x) negated-negatable))
+  negation-is = rw (+ℤ-idl (negated x)) (Signs.word-is (negated x) (fits-word (negated x) negated-negatable))
 
   pub turned-negatable : Negatable (toZ w32 (ofZ w32 (pos 0 -ℤ toZ w32 (ofZ w32 x))))
   turned-negatable = rw (word-is, negation-is) negated-negatable

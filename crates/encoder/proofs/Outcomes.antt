@@ -6,22 +6,23 @@ use native.Mathlib.Nat.{zero-add}
 use borrow.Author.Tests.{le-leb, lt-leb, ne-eqb}
 use lib.IntN.{ℤ}
 use lib.ListN.{length}
-use Rattle.clauses.specs.Answers.{Answer, granted}
+use Rattle.clauses.specs.Answers.{granted}
 use Rattle.clauses.specs.CnfWords.{words-of}
 use Rattle.meaning.specs.Answers.{room-too-small}
 use Rattle.meaning.specs.Problem as problems
 use Rattle.meaning.specs.Problem.{problem}
-use Rattle.meaning.specs.Check.{WellFormed, check-problem}
+use Rattle.meaning.specs.Check.{WellFormed}
 use Rattle.meaning.specs.Cnf.{cnf, cnf-words}
 use Rattle.meaning.specs.Counts.{variable-count, clause-count, word-count, variables-of, clauses-in, words-in}
 use Rattle.meaning.specs.Calls.{room-checked, write-cnf, room-after-writing}
-use Rattle.meaning.proofs.Check.{check-yes, checked-if-well-formed, not-well-formed, proper-if-well-formed}
+use Rattle.meaning.proofs.Check.{check-yes, checked-if-well-formed, proper-if-well-formed}
 use Rattle.meaning.proofs.Counts.{word-count-is}
 use Rattle.problem.specs.declared.Sizes as problem-sizes
 use Rattle.problem.specs.declared.Refusal.{Refusal}
 use Rattle.problem.specs.declared.Checked.the-variants.{Good, Refused}
 use Rattle.problem.specs.Promise.{CheckedAs, refusal-answer}
 use Rattle.problem.proofs.Unique.{refusal-not-yes}
+use Rattle.problem.proofs.Whole.{refused-whatever}
 use Rattle.encoder.specs.declared.Encoded.the-variants.{Written, Problem, RoomTooSmall}
 use Rattle.encoder.specs.declared.Encoded.{Encoded}
 use Rattle.encoder.specs.declared.count.Tally.{Tally}
@@ -57,13 +58,10 @@ module _ {version : ℕ} {ws : List ℕ} where
     }
 
   module _ {f : Refusal} (refused : CheckedAs version ws (Refused f)) where
-    not-well : WellFormed version ws → ⊥
-    not-well w = refusal-not-yes f (ap (λ (a : Answer). a .number) (refused .answered ∙ (check-yes version ws) .1 w))
-
     pub encoded-if-refused : (before : List ℤ) → EncodedAs version ws before (Problem f) before
-    unfolding write-cnf check-problem room-after-writing
+    unfolding write-cnf room-after-writing
     encoded-if-refused before = record {
-      answered = refused .answered ∙ not-well-formed version ws (granted 0) _ not-well;
+      answered = refused-whatever version ws f _ (refused .answered);
       room-after = rw (ne-eqb (refusal-answer f .number) 0 (refusal-not-yes f));
     }
 

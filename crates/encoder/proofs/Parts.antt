@@ -1,8 +1,7 @@
 -- What the words and sizes of a proper problem say of it. Assumes nothing.
-use mathlib.Core.Path.{_≡_, sym, _∙_, ap}
+use mathlib.Core.Path.{_≡_, sym, _∙_}
 use mathlib.Core.List.{List}
 use Prim.Native.Nat.{ℕ, _+_, _*_, _<_, _≤_}
-use native.Mathlib.Nat.{add-zero}
 use native.Mathlib.Omega.{arith}
 use lib.IntN.{ℤ, pos, _-ℤ_}
 use lib.ListN.{length}
@@ -10,12 +9,12 @@ use mir.Syntax.{w32}
 use mir.Val.{toZ, ofZ}
 use Rattle.clauses.specs.Clauses.{negated}
 use Rattle.meaning.specs.Limits.{bound-limit}
-use Rattle.meaning.specs.Problem.{Problem, Latch, Gate, Left, constant, child, W, latch, gate, node, word, header-words, node-of, problem}
+use Rattle.meaning.specs.Problem.{Problem, Left, constant, child, W, latch, gate, node, word, header-words, node-of, problem}
 use Rattle.meaning.specs.Check.{LeftProper, NodeProper}
-use Rattle.meaning.proofs.Check.{inputs-of-words, bound-of-words, latches-of-words, gates-of-words, nodes-of-words, latch-of-words, gate-of-words, node-of-words}
 use Rattle.problem.specs.declared.Sizes.{Sizes}
 use Rattle.problem.specs.declared.Node.{Node}
 use Rattle.problem.specs.Promise.{node-read}
+use Rattle.problem.proofs.SizesRead.{sizes-read, next-read, reset-read, left-read, right-read, node-words-read}
 use Rattle.encoder.specs.Work.{Ready, Negatable, Small}
 use Rattle.encoder.proofs.Negation.{word-is, negation-is}
 
@@ -23,22 +22,22 @@ module _ {ws : List ℕ} {s : Sizes} (ready : Ready ws s) where
   -- ════════ The sizes ════════
 
   pub inputs-are : problem ws .inputs ≡ s .inputs
-  inputs-are = inputs-of-words ws ∙ rw (ready .opened .sizes-are)
+  inputs-are = sym (sizes-read ws (ready .opened .sizes-are) .inputs-are)
 
   pub latches-are : length (problem ws .latches) ≡ s .latches
-  latches-are = latches-of-words ws ∙ rw (ready .opened .sizes-are)
+  latches-are = sym (sizes-read ws (ready .opened .sizes-are) .latches-are)
 
   pub gates-are : length (problem ws .gates) ≡ s .gates
-  gates-are = gates-of-words ws ∙ rw (ready .opened .sizes-are)
+  gates-are = sym (sizes-read ws (ready .opened .sizes-are) .gates-are)
 
   pub nodes-are : length (problem ws .nodes) ≡ s .nodes
-  nodes-are = nodes-of-words ws ∙ rw (ready .opened .sizes-are)
+  nodes-are = sym (sizes-read ws (ready .opened .sizes-are) .nodes-are)
 
   pub nodes-some : 1 ≤ s .nodes
   nodes-some = rw nodes-are at (ready .proper .nodes-some)
 
   pub bound-is : problem ws .bound ≡ s .bound
-  bound-is = bound-of-words ws ∙ rw (ready .opened .sizes-are)
+  bound-is = sym (sizes-read ws (ready .opened .sizes-are) .bound-is)
 
   pub bound-small : s .bound ≤ bound-limit
   bound-small = rw bound-is at (ready .proper .bound-within)
@@ -70,27 +69,21 @@ module _ {ws : List ℕ} {s : Sizes} (ready : Ready ws s) where
   -- ════════ The latches, the gates and the nodes ════════
 
   module _ {i : ℕ} (l : i < s .latches) where
-    latch-is : latch (problem ws) i ≡ record { next = word ws (header-words + 2 * i); reset = word ws (header-words + 2 * i + 1) }
-    latch-is = latch-of-words ws i (rw (← latches-of-words ws, latches-are) l)
-
     pub next-is : word ws (header-words + 2 * i) ≡ latch (problem ws) i .next
-    next-is = sym (ap (λ (c : Latch). c .next) latch-is)
+    next-is = next-read ws (ready .opened .sizes-are) i l
 
     pub reset-is : word ws (header-words + 2 * i + 1) ≡ latch (problem ws) i .reset
-    reset-is = sym (ap (λ (c : Latch). c .reset) latch-is)
+    reset-is = reset-read ws (ready .opened .sizes-are) i l
 
     pub next-within : word ws (header-words + 2 * i) ≤ 2 * (s .inputs + s .latches + s .gates) + 1
     next-within = rw (next-is) (rw (inputs-are, latches-are, gates-are) at (ready .proper .next-in-range i (rw latches-are l)))
 
   module _ {j : ℕ} (l : j < s .gates) where
-    gate-is : gate (problem ws) j ≡ record { left = word ws (s .«gates_from» + 2 * j); right = word ws (s .«gates_from» + 2 * j + 1) }
-    gate-is = gate-of-words ws j (rw (← gates-of-words ws, gates-are) l) ∙ simp (ready .opened .sizes-are, add-zero)
-
     pub left-is : word ws (s .«gates_from» + 2 * j) ≡ gate (problem ws) j .left
-    left-is = sym (ap (λ (c : Gate). c .left) gate-is)
+    left-is = left-read ws (ready .opened .sizes-are) j l
 
     pub right-is : word ws (s .«gates_from» + 2 * j + 1) ≡ gate (problem ws) j .right
-    right-is = sym (ap (λ (c : Gate). c .right) gate-is)
+    right-is = right-read ws (ready .opened .sizes-are) j l
 
     pub left-within : word ws (s .«gates_from» + 2 * j) ≤ 2 * (s .inputs + s .latches + s .gates) + 1
     left-within =
@@ -102,15 +95,11 @@ module _ {ws : List ℕ} {s : Sizes} (ready : Ready ws s) where
         let below = rw (inputs-are, latches-are) at (ready .proper .right-below j (rw gates-are l)) in
         rw right-is (omega arith)
 
-  node-is : {n : ℕ} → n < s .nodes
-      → node-of (word ws (s .«nodes_from» + 3 * n)) (word ws (s .«nodes_from» + 3 * n + 1)) (word ws (s .«nodes_from» + 3 * n + 2)) ≡ node (problem ws) n
-  node-is {n} l = sym (node-of-words ws n (rw (← nodes-of-words ws, nodes-are) l) ∙ simp (ready .opened .sizes-are, add-zero))
-
   -- The node that the code read, and by its shape.
   pub read-is : {n : ℕ} → n < s .nodes → (r : Node)
       → node-read r ≡ node-of (word ws (s .«nodes_from» + 3 * n)) (word ws (s .«nodes_from» + 3 * n + 1)) (word ws (s .«nodes_from» + 3 * n + 2))
       → node (problem ws) n ≡ node-read r
-  read-is l r read = sym (node-is l) ∙ sym read
+  read-is {n} l r read = sym (node-words-read ws (ready .opened .sizes-are) n l) ∙ sym read
 
   module _ {n : ℕ} (l : n < s .nodes) {r x : Node}
       (read : node-read r ≡ node-of (word ws (s .«nodes_from» + 3 * n)) (word ws (s .«nodes_from» + 3 * n + 1)) (word ws (s .«nodes_from» + 3 * n + 2)))

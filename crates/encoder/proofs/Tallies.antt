@@ -1,11 +1,12 @@
 -- What is counted in a list, one element after the other. Assumes nothing.
-use mathlib.Core.Path.{_≡_, refl}
+use mathlib.Core.Path.{_≡_, refl, _∙_, ap}
 use mathlib.Core.Bool.{Bool, true, false, cond}
 use mathlib.Core.List.{List, [], _∷_, _++_}
 use Prim.Native.Nat.{_+_, _^_, _≤_, _<_}
 use native.Mathlib.Omega.{arith}
-use lib.ListN.{length}
+use lib.ListN.{length, length-append}
 use Rattle.clauses.specs.Lists.{those}
+use Rattle.clauses.proofs.Satisfaction.{those-append}
 use Rattle.meaning.specs.Problem.{Node}
 use Rattle.meaning.specs.Counts.{has-equal-form, has-or-form, has-until-form}
 use Rattle.encoder.specs.declared.count.Forms.{Forms}
@@ -22,17 +23,11 @@ module _ {A : Type 0} (t : A → Bool) where
 
   -- One element more.
   pub those-more : (xs : List A) (x : A) → length (those t (xs ++ (x ∷ []))) ≡ length (those t xs) + cond (t x) 1 0
-  those-more [] x = go (t x)
+  those-more xs x = ap length (those-append t xs (x ∷ [])) ∙ length-append (those t xs) (those t (x ∷ [])) ∙ go (t x)
     where
-      go : (b : Bool) → length (cond b (x ∷ []) []) ≡ 0 + cond b 1 0
+      go : (b : Bool) → length (those t xs) + length (cond b (x ∷ []) []) ≡ length (those t xs) + cond b 1 0
       go true = refl
       go false = refl
-  those-more (y ∷ ys) x = go (t y) (those-more ys x)
-    where
-      go : (b : Bool) → length (those t (ys ++ (x ∷ []))) ≡ length (those t ys) + cond (t x) 1 0
-          → length (cond b (y ∷ those t (ys ++ (x ∷ []))) (those t (ys ++ (x ∷ [])))) ≡ length (cond b (y ∷ those t ys) (those t ys)) + cond (t x) 1 0
-      go true e = omega arith
-      go false e = e
 
 -- ════════ The nodes by their form ════════
 

@@ -5,6 +5,7 @@ use Prim.Native.Nat.{ℕ}
 use native.Mathlib.Omega.{arith}
 use lib.IntN.{ℤ}
 use Rattle.clauses.specs.Answers.{Answer}
+use Rattle.clauses.proofs.Answers.{number-of, place-of}
 use Rattle.meaning.specs.Calls.{room-after-writing}
 use Rattle.problem.specs.declared.Refusal.{Refusal}
 use Rattle.problem.specs.declared.Refusal.the-variants.{BadVersion, BadLength, OutsideLimits, BadReset, BadLiteral, BadNode}
@@ -15,12 +16,6 @@ use Rattle.encoder.specs.declared.Encoded.the-variants.{Written, Problem
 use Rattle.encoder.specs.declared.Counted.{Counted}
 use Rattle.encoder.specs.declared.Counted.the-variants.{Good, Refused}
 use Rattle.encoder.specs.Promise.{answer-of, EncodedAs, counted-answer, Numbered, CountedAs}
-
-number-of : {a b : Answer} → a ≡ b → a .number ≡ b .number
-number-of e = ap (λ (x : Answer). x .number) e
-
-place-of : {a b : Answer} → a ≡ b → a .place ≡ b .place
-place-of e = ap (λ (x : Answer). x .place) e
 
 -- ════════ Writing ════════
 

@@ -1,25 +1,23 @@
--- The check says yes exactly to well-formed words, decides them, and their problem is proper. Assumes nothing.
-use mathlib.Core.Path.{_≡_, refl, sym, _∙_, ap}
+-- The check says yes exactly to well-formed words, and their problem is proper. Assumes nothing.
+use mathlib.Core.Path.{_≡_, refl, sym, _∙_}
 use mathlib.Core.Logic.{_↔_}
 use mathlib.Core.Bool.{Bool, true, false, true≢false}
 use mathlib.Core.List.{List, [], _∷_, _++_}
 use Prim.Native.Nat.{ℕ, zero, suc, _+_, _*_, _<_}
 use native.Mathlib.Omega.{arith}
-use lib.Dec.{leb, eqb, lit<}
+use borrow.Author.Tests.{leb-true, le-leb, eqb-true, eq-eqb}
+use lib.Dec.{leb, lit<}
 use lib.ListN.{length, getD}
 use Rattle.clauses.specs.Lists.{numbers, each, all-of}
 use Rattle.clauses.specs.Answers.{Answer, Check, check, first-failing, granted}
-use Rattle.clauses.proofs.Satisfaction.{both-true, not-both, false-if-not-true, le-if-leb, leb-if-le, eq-if-eqb, eqb-self, all-of-append, all-of-first, all-of-second, all-of-at, first-true, second-true}
-use Rattle.clauses.proofs.Answers.{passing, refusing, first-failing-append, first-failing-passed, all-pass-if-yes}
+use Rattle.clauses.proofs.Satisfaction.{both-true, false-if-not-true, all-of-append, all-of-first, all-of-second, all-of-at, first-true, second-true}
+use Rattle.clauses.proofs.Answers.{passing, refusing, first-failing-append, first-failing-passed, all-pass-if-yes, number-of}
 use Rattle.meaning.specs.Limits.{nodes-limit}
 use Rattle.meaning.specs.Problem.{Problem, W, latch, gate, node, Header, header, word, node-place, children, node-of, read-latch, read-gate, read-node, problem}
 use Rattle.meaning.specs.Check.{largest-literal, first-right, second-right, children-of, opening-checks, latch-checks, gate-checks, node-checks, part-checks, parts-checked, problem-checked, check-problem, LatchRight, GateRight, FirstRight, SecondRight, NodeRight, WellFormed, NodeProper, Proper}
 use Rattle.meaning.proofs.Numbers.{length-map-numbers, getD-map-numbers, all-of-each-below, all-of-below}
 
 -- ════════ Tests and checks in general ════════
-
-pub eqb-if-eq : (m n : ℕ) → m ≡ n → eqb m n ≡ true
-eqb-if-eq m n e = rw e (eqb-self n)
 
 -- Where a check fails, what comes after the checks does not matter.
 pub first-failing-refused : (cs : List Check) (a b : Answer) → all-of passing cs ≡ false → first-failing cs a ≡ first-failing cs b
@@ -39,46 +37,46 @@ passes-at cs k = all-of-at passing cs k (check true (granted 0))
 -- ════════ One latch, gate or node ════════
 
 first-passes : (h : Header) (n c a : ℕ) → FirstRight h n c a → first-right h n c a ≡ true
-first-passes h n zero a r = leb-if-le _ _ r
-first-passes h n (suc c) a r = leb-if-le _ _ r
+first-passes h n zero a r = le-leb _ _ r
+first-passes h n (suc c) a r = le-leb _ _ r
 
 first-if-passes : (h : Header) (n c a : ℕ) → first-right h n c a ≡ true → FirstRight h n c a
-first-if-passes h n zero a e = le-if-leb _ _ e
-first-if-passes h n (suc c) a e = le-if-leb _ _ e
+first-if-passes h n zero a e = leb-true _ _ e
+first-if-passes h n (suc c) a e = leb-true _ _ e
 
 second-passes : (n c b : ℕ) → SecondRight n c b → second-right n c b ≡ true
-second-passes n zero b r = eqb-if-eq b 0 r
-second-passes n (suc zero) b r = eqb-if-eq b 0 r
-second-passes n (suc (suc c)) b r = leb-if-le _ _ r
+second-passes n zero b r = eq-eqb b 0 r
+second-passes n (suc zero) b r = eq-eqb b 0 r
+second-passes n (suc (suc c)) b r = le-leb _ _ r
 
 second-if-passes : (n c b : ℕ) → second-right n c b ≡ true → SecondRight n c b
-second-if-passes n zero b e = eq-if-eqb b 0 e
-second-if-passes n (suc zero) b e = eq-if-eqb b 0 e
-second-if-passes n (suc (suc c)) b e = le-if-leb _ _ e
+second-if-passes n zero b e = eqb-true b 0 e
+second-if-passes n (suc zero) b e = eqb-true b 0 e
+second-if-passes n (suc (suc c)) b e = leb-true _ _ e
 
 module _ (h : Header) (ws : List ℕ) (i : ℕ) where
   latch-passes : LatchRight h ws i → all-of passing (latch-checks h ws i) ≡ true
-  latch-passes r = both-true (leb-if-le _ _ (r .next-in-range)) (both-true (leb-if-le _ _ (r .reset-in-range)) refl)
+  latch-passes r = both-true (le-leb _ _ (r .next-in-range)) (both-true (le-leb _ _ (r .reset-in-range)) refl)
 
   latch-if-passes : all-of passing (latch-checks h ws i) ≡ true → LatchRight h ws i
   latch-if-passes e = record {
-    next-in-range = le-if-leb _ _ (passes-at (latch-checks h ws i) 0 e (lit< tt));
-    reset-in-range = le-if-leb _ _ (passes-at (latch-checks h ws i) 1 e (lit< tt));
+    next-in-range = leb-true _ _ (passes-at (latch-checks h ws i) 0 e (lit< tt));
+    reset-in-range = leb-true _ _ (passes-at (latch-checks h ws i) 1 e (lit< tt));
   }
 
   gate-passes : GateRight h ws i → all-of passing (gate-checks h ws i) ≡ true
-  gate-passes r = both-true (leb-if-le _ _ (r .left-below)) (both-true (leb-if-le _ _ (r .right-below)) refl)
+  gate-passes r = both-true (le-leb _ _ (r .left-below)) (both-true (le-leb _ _ (r .right-below)) refl)
 
   gate-if-passes : all-of passing (gate-checks h ws i) ≡ true → GateRight h ws i
   gate-if-passes e = record {
-    left-below = le-if-leb _ _ (passes-at (gate-checks h ws i) 0 e (lit< tt));
-    right-below = le-if-leb _ _ (passes-at (gate-checks h ws i) 1 e (lit< tt));
+    left-below = leb-true _ _ (passes-at (gate-checks h ws i) 0 e (lit< tt));
+    right-below = leb-true _ _ (passes-at (gate-checks h ws i) 1 e (lit< tt));
   }
 
   node-passes : NodeRight h ws i → all-of passing (node-checks h ws i) ≡ true
   node-passes r =
       let op = word ws (node-place h i) in
-      both-true (leb-if-le _ _ (r .op-known))
+      both-true (le-leb _ _ (r .op-known))
       (both-true (first-passes h i (children-of op) (word ws (node-place h i + 1)) (r .first-word))
       (both-true (second-passes i (children-of op) (word ws (node-place h i + 2)) (r .second-word)) refl))
 
@@ -86,7 +84,7 @@ module _ (h : Header) (ws : List ℕ) (i : ℕ) where
   node-if-passes e =
       let op = word ws (node-place h i) in
       record {
-        op-known = le-if-leb _ _ (passes-at (node-checks h ws i) 0 e (lit< tt));
+        op-known = leb-true _ _ (passes-at (node-checks h ws i) 0 e (lit< tt));
         first-word = first-if-passes h i (children-of op) (word ws (node-place h i + 1)) (passes-at (node-checks h ws i) 1 e (lit< tt));
         second-word = second-if-passes i (children-of op) (word ws (node-place h i + 2)) (passes-at (node-checks h ws i) 2 e (lit< tt));
       }
@@ -147,14 +145,14 @@ all-checks-refusing version ws = all-of-parts refusing ws (λ i l. refl) (λ j l
 
 pub all-pass-if-well-formed : (version : ℕ) (ws : List ℕ) → WellFormed version ws → all-of passing (all-checks version ws) ≡ true
 all-pass-if-well-formed version ws w =
-    both-true (eqb-if-eq _ _ (w .version-known))
-    (both-true (leb-if-le _ _ (w .header-there))
-    (both-true (leb-if-le _ _ (w .inputs-within))
-    (both-true (leb-if-le _ _ (w .latches-within))
-    (both-true (leb-if-le _ _ (w .gates-within))
-    (both-true (both-true (leb-if-le _ _ (w .nodes-some)) (leb-if-le _ _ (w .nodes-within)))
-    (both-true (leb-if-le _ _ (w .bound-within))
-    (both-true (eqb-if-eq _ _ (w .length-right))
+    both-true (eq-eqb _ _ (w .version-known))
+    (both-true (le-leb _ _ (w .header-there))
+    (both-true (le-leb _ _ (w .inputs-within))
+    (both-true (le-leb _ _ (w .latches-within))
+    (both-true (le-leb _ _ (w .gates-within))
+    (both-true (both-true (le-leb _ _ (w .nodes-some)) (le-leb _ _ (w .nodes-within)))
+    (both-true (le-leb _ _ (w .bound-within))
+    (both-true (eq-eqb _ _ (w .length-right))
     (all-of-parts passing ws
     (λ i l. latch-passes (header ws) ws i (w .latches-right i l))
     (λ j l. gate-passes (header ws) ws j (w .gates-right j l))
@@ -162,15 +160,15 @@ all-pass-if-well-formed version ws w =
 
 pub well-formed-if-all-pass : (version : ℕ) (ws : List ℕ) → all-of passing (all-checks version ws) ≡ true → WellFormed version ws
 well-formed-if-all-pass version ws e = record {
-  version-known = eq-if-eqb _ _ (opening 0 (lit< tt));
-  header-there = le-if-leb _ _ (opening 1 (lit< tt));
-  inputs-within = le-if-leb _ _ (opening 2 (lit< tt));
-  latches-within = le-if-leb _ _ (opening 3 (lit< tt));
-  gates-within = le-if-leb _ _ (opening 4 (lit< tt));
-  nodes-some = le-if-leb _ _ (first-true (leb 1 (header ws .nodes)) (leb (header ws .nodes) nodes-limit) (opening 5 (lit< tt)));
-  nodes-within = le-if-leb _ _ (second-true (leb 1 (header ws .nodes)) (leb (header ws .nodes) nodes-limit) (opening 5 (lit< tt)));
-  bound-within = le-if-leb _ _ (opening 6 (lit< tt));
-  length-right = eq-if-eqb _ _ (opening 7 (lit< tt));
+  version-known = eqb-true _ _ (opening 0 (lit< tt));
+  header-there = leb-true _ _ (opening 1 (lit< tt));
+  inputs-within = leb-true _ _ (opening 2 (lit< tt));
+  latches-within = leb-true _ _ (opening 3 (lit< tt));
+  gates-within = leb-true _ _ (opening 4 (lit< tt));
+  nodes-some = leb-true _ _ (first-true (leb 1 (header ws .nodes)) (leb (header ws .nodes) nodes-limit) (opening 5 (lit< tt)));
+  nodes-within = leb-true _ _ (second-true (leb 1 (header ws .nodes)) (leb (header ws .nodes) nodes-limit) (opening 5 (lit< tt)));
+  bound-within = leb-true _ _ (opening 6 (lit< tt));
+  length-right = eqb-true _ _ (opening 7 (lit< tt));
   latches-right = λ i l. latch-if-passes (header ws) ws i (all-of-latch passing ws parts i l);
   gates-right = λ j l. gate-if-passes (header ws) ws j (all-of-gate passing ws parts j l);
   nodes-right = λ n l. node-if-passes (header ws) ws n (all-of-node passing ws parts n l);
@@ -197,14 +195,7 @@ well-formed-if-checked version ws after e =
 pub check-yes : (version : ℕ) (ws : List ℕ) → (check-problem version ws ≡ granted 0) ↔ WellFormed version ws
 unfolding check-problem
 check-yes version ws =
-    (λ e. well-formed-if-checked version ws (granted 0) (ap (λ (x : Answer). x .number) e), checked-if-well-formed version ws (granted 0))
-
-pub decide-well-formed : (version : ℕ) (ws : List ℕ) → Dec (WellFormed version ws)
-decide-well-formed version ws = go (all-of passing (all-checks version ws)) refl
-  where
-    go : (b : Bool) → all-of passing (all-checks version ws) ≡ b → Dec (WellFormed version ws)
-    go true e = yes (well-formed-if-all-pass version ws e)
-    go false e = no (λ w. not-both (all-pass-if-well-formed version ws w) e)
+    (λ e. well-formed-if-checked version ws (granted 0) (number-of e), checked-if-well-formed version ws (granted 0))
 
 -- A refusal of the check does not depend on what comes after it.
 pub not-well-formed : (version : ℕ) (ws : List ℕ) (a b : Answer) → ¬ WellFormed version ws

@@ -238,7 +238,7 @@ word-count-is p =
     sym (total-words (cnf p)) ∙ cnf-total suc p ∙ rw (forms-are-all (p .nodes)) (omega (arith, ap (λ r. length (p .nodes) * r) ends))
 
 -- The last of some multiples.
-last-of : (n c : ℕ) → 1 ≤ n → n * c ≡ (n - 1) * c + c
+pub last-of : (n c : ℕ) → 1 ≤ n → n * c ≡ (n - 1) * c + c
 last-of zero c h = omega arith
 last-of (suc n) c h =
     let one-less : suc n - 1 ≡ n = omega arith in

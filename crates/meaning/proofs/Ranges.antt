@@ -5,13 +5,14 @@ use mathlib.Core.List.{List, [], _∷_, _++_, map}
 use Prim.Native.Nat.{ℕ, zero, suc, max, _+_, _*_, _-_, _/_, _≤_, _<_}
 use native.Mathlib.Nat.{zero-add, add-zero, add-suc, suc-add, add-mul, mul-add, mul-one, one-mul, mul-le-mul, mul-le-mul-right}
 use native.Mathlib.Omega.{arith}
+use borrow.Author.Tests.{leb-true}
 use lib.IntN.{ℤ, pos}
 use lib.Dec.{leb}
 use lib.ListN.{length}
 use Rattle.clauses.specs.Lists.{numbers, each}
 use Rattle.clauses.specs.Limits.{variables-limit}
 use Rattle.clauses.specs.Clauses.{Clause, variable-of, literal-within, Within}
-use Rattle.clauses.proofs.Satisfaction.{both-true, le-if-leb, all-of-append, all-of-map, all-of-if-at, first-true, second-true}
+use Rattle.clauses.proofs.Satisfaction.{both-true, all-of-append, all-of-map, all-of-if-at, first-true, second-true, variable-of-negated}
 use Rattle.meaning.specs.Limits.{inputs-limit, latches-limit, gates-limit, nodes-limit, bound-limit}
 use Rattle.meaning.specs.Problem.{Problem, Left, Node, W, latch-variable, gate-variable, latch, gate, node, constant, child, atom, both, either, next, until, release}
 use Rattle.meaning.specs.Check.{Proper, LeftProper, NodeProper}
@@ -19,7 +20,7 @@ use Rattle.meaning.specs.Runs.{odd}
 use Rattle.meaning.specs.Cnf.{true-literal, false-literal, circuit-variable, literal-at, node-variables, selector, E, P, Q, Q-end, Q-at, left-at, variables, positions, latch-at, next-at, gate-clauses, gates-item, reset-unit, resets-item, steps-item, closing-clauses, closing-item, selectors-item, P-clauses, Q-clauses, E-clauses, node-clauses, nodes-item, cnf}
 use Rattle.meaning.specs.Counts.{largest-in, largest-variable}
 use Rattle.meaning.proofs.Numbers.{length-numbers, getD-numbers, all-of-each-number, all-of-each-below}
-use Rattle.meaning.proofs.Within.{variable-of-negated, clause-within, Fits, pos-fits, negated-fits, signed-fits, unit-within, two-fit, equal-form-within, or-form-within, and-form-within, until-form-within, release-form-within, selected-within, within-append}
+use Rattle.meaning.proofs.Within.{clause-within, Fits, pos-fits, negated-fits, signed-fits, unit-within, two-fit, equal-form-within, or-form-within, and-form-within, until-form-within, release-form-within, selected-within, within-append}
 
 -- ════════ The bounds of each kind of variable ════════
 
@@ -66,14 +67,14 @@ module _ (p : Problem) (proper : Proper p) where
   P-fits n i h = go (leb i (p .bound)) refl
     where
       go : (b : Bool) → leb i (p .bound) ≡ b → Fits (variables p) (cond b (pos (node-variables p n + i)) (E p n))
-      go true e = pos-fits (omega arith) (omega (arith, le-if-leb i (p .bound) e, node-bound n h))
+      go true e = pos-fits (omega arith) (omega (arith, leb-true i (p .bound) e, node-bound n h))
       go false e = E-fits n h
 
   Q-fits : (n : ℕ) {end : ℤ} (i : ℕ) → n < length (p .nodes) → Fits (variables p) end → Fits (variables p) (Q p n end i)
   Q-fits n {end} i h he = go (leb i (p .bound)) refl
     where
       go : (b : Bool) → leb i (p .bound) ≡ b → Fits (variables p) (cond b (pos (node-variables p n + (p .bound + 1) + i)) end)
-      go true e = pos-fits (omega arith) (omega (arith, le-if-leb i (p .bound) e, node-bound n h))
+      go true e = pos-fits (omega arith) (omega (arith, leb-true i (p .bound) e, node-bound n h))
       go false e = he
 
   Q-end-fits : (x : Node) → Fits (variables p) (Q-end x)
@@ -211,7 +212,7 @@ literals-within p proper =
 largest-in-at-most : (v : ℕ) (c : Clause) → clause-within v c ≡ true → largest-in c ≤ v
 largest-in-at-most v [] h = omega arith
 largest-in-at-most v (x ∷ xs) h =
-    let first : variable-of x ≤ v = le-if-leb _ _ (second-true (leb 1 (variable-of x)) _ (first-true (literal-within v x) _ h)) in
+    let first : variable-of x ≤ v = leb-true _ _ (second-true (leb 1 (variable-of x)) _ (first-true (literal-within v x) _ h)) in
     let later : largest-in xs ≤ v = largest-in-at-most v xs (second-true (literal-within v x) _ h) in
     omega arith
 

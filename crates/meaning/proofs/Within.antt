@@ -2,19 +2,15 @@
 use mathlib.Core.Path.{_≡_, refl}
 use mathlib.Core.Bool.{Bool, true, false}
 use mathlib.Core.List.{List, [], _∷_, _++_}
-use Prim.Native.Nat.{ℕ, zero, suc, _≤_}
-use lib.IntN.{ℤ, pos, negsuc}
+use Prim.Native.Nat.{ℕ, _≤_}
+use borrow.Author.Tests.{le-leb}
+use lib.IntN.{ℤ, pos}
 use Rattle.clauses.specs.Lists.{all-of}
-use Rattle.clauses.specs.Clauses.{Clause, negated, variable-of, literal-within, Within}
-use Rattle.clauses.proofs.Satisfaction.{both-true, leb-if-le, all-of-append}
+use Rattle.clauses.specs.Clauses.{Clause, negated, literal-within, Within}
+use Rattle.clauses.proofs.Satisfaction.{both-true, all-of-append, variable-of-negated}
 use Rattle.meaning.specs.Cnf.{signed, equal-form, or-form, and-form, until-form, release-form}
 
 -- ════════ Literals ════════
-
-pub variable-of-negated : (x : ℤ) → variable-of (negated x) ≡ variable-of x
-variable-of-negated (pos zero) = refl
-variable-of-negated (pos (suc n)) = refl
-variable-of-negated (negsuc n) = refl
 
 -- A literal of one of the variables 1 to v.
 pub record Fits (v : ℕ) (x : ℤ) : Type 0 where
@@ -22,7 +18,7 @@ pub record Fits (v : ℕ) (x : ℤ) : Type 0 where
 
 module _ {v : ℕ} where
   pub pos-fits : {n : ℕ} → 1 ≤ n → n ≤ v → Fits v (pos n)
-  pos-fits {n} low high = record { within = both-true (leb-if-le 1 n low) (leb-if-le n v high) }
+  pos-fits {n} low high = record { within = both-true (le-leb 1 n low) (le-leb n v high) }
 
   pub negated-fits : {x : ℤ} → Fits v x → Fits v (negated x)
   negated-fits {x} h = record { within = rw variable-of-negated (h .within) }

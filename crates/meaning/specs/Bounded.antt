@@ -4,7 +4,7 @@ use mathlib.Core.List.{List, [], _∷_}
 use Prim.Native.Nat.{ℕ, zero, suc, _-_}
 use lib.Dec.{eqb, ltb}
 use Rattle.clauses.specs.Lists.{numbers}
-use Rattle.meaning.specs.Runs.{Position, literal-value}
+use Rattle.meaning.specs.Runs.{literal-value}
 use Rattle.meaning.specs.Formulas.{Formula, atom, both, either, next, until, release}
 
 -- "A lasso with start l", or "a prefix has no loop".

@@ -1,25 +1,21 @@
 -- Document 01's cases: T whole, the thirteen counts of witnesses, the figures at all limits, each by computing. Assumes nothing.
-use mathlib.Core.Bool.{Bool, true, false}
 use mathlib.Core.List.{List, [], _∷_, _++_, map}
 use mathlib.Core.Path.{_≡_, refl}
-use Prim.Native.Nat.{ℕ, zero, suc, _+_, _*_}
-use lib.Dec.{eqb}
-use lib.IntN.{ℤ, pos, negsuc}
+use Prim.Native.Nat.{ℕ}
 use lib.ListN.{length, replicate}
-use Rattle.clauses.specs.Lists.{numbers, each, those}
-use Rattle.clauses.specs.Limits.{variables-limit}
+use Rattle.clauses.specs.Lists.{each}
 use Rattle.clauses.specs.Answers.{answer}
-use Rattle.clauses.specs.CnfWords.{cnf-checks}
 use Rattle.clauses.specs.Refutations.{judge-clauses, judge-steps, refutation-checks, area-checks, step-accepted}
+use Rattle.clauses.specs.Cases.{T-cnf, T-steps, T-other-steps}
 use Rattle.meaning.specs.Limits.{inputs-limit, latches-limit, gates-limit, nodes-limit, bound-limit, job-limit, program-room}
-use Rattle.meaning.specs.Problem.{Problem, Left, Node, child, atom, until, release, problem}
+use Rattle.meaning.specs.Problem.{Problem, child, atom, until, release, problem}
 use Rattle.meaning.specs.Check.{known-version, part-checks, parts-checked, problem-checked, check-problem}
 use Rattle.meaning.specs.Runs.{values, next-values}
 use Rattle.meaning.specs.Formulas.{formula}
 use Rattle.meaning.specs.Witnesses.{run, judge-formula, judge-run, judge-bytes, witnesses}
 use Rattle.meaning.specs.Cnf.{variables, cnf, cnf-words}
 use Rattle.meaning.specs.Counts.{variable-count, clause-count, word-count}
-use Rattle.meaning.specs.Calls.{room-checked, write-cnf, judge-witness, judge-of-cnf, judge-refutation}
+use Rattle.meaning.specs.Calls.{room-checked, write-cnf, judge-of-cnf, judge-refutation}
 use Rattle.meaning.specs.JobFile.{job-words, job-checks, job-checked, bytes-of, decimal, cnf-text, refusal-line, job-answer, printed}
 
 -- ════════ Case T ════════
@@ -27,26 +23,6 @@ use Rattle.meaning.specs.JobFile.{job-words, job-checks, job-checked, by
 -- "words 0 1 0 1 0 3 0 0 2 0"
 abbrev pub T-words : List ℕ
 T-words = 0 ∷ 1 ∷ 0 ∷ 1 ∷ 0 ∷ 3 ∷ 0 ∷ 0 ∷ 2 ∷ 0 ∷ []
-
-abbrev minus : ℕ → ℤ
-minus zero = pos 0
-minus (suc n) = negsuc n
-
-abbrev pub T-cnf : List ℤ
-T-cnf =
-    pos 1 ∷ pos 0
-    ∷ minus 2 ∷ pos 0
-    ∷ minus 3 ∷ minus 2 ∷ minus 2 ∷ pos 0
-    ∷ minus 3 ∷ pos 2 ∷ pos 2 ∷ pos 0
-    ∷ minus 4 ∷ pos 2 ∷ pos 0
-    ∷ pos 4 ∷ minus 2 ∷ pos 0
-    ∷ minus 5 ∷ pos 4 ∷ pos 0
-    ∷ pos 5 ∷ minus 4 ∷ pos 0
-    ∷ minus 3 ∷ minus 6 ∷ pos 5 ∷ pos 0
-    ∷ minus 3 ∷ pos 6 ∷ minus 5 ∷ pos 0
-    ∷ minus 6 ∷ pos 3 ∷ pos 0
-    ∷ pos 4 ∷ pos 0
-    ∷ []
 
 T-is-written : cnf-words (problem T-words) ≡ T-cnf
 unfolding problem cnf cnf-words
@@ -86,11 +62,11 @@ unfolding known-version job-limit job-checks job-checked decimal refusal-line jo
 other-version-is-refused = refl
 
 -- "Refutation 0 2 12 5 0 is accepted; 0 12 5 0 is refused (13 at 0)."
-T-is-refuted : judge-refutation 1 T-words (pos 0 ∷ pos 2 ∷ pos 12 ∷ pos 5 ∷ pos 0 ∷ []) 38 7 13 ≡ answer 0 0
+T-is-refuted : judge-refutation 1 T-words T-steps 38 7 13 ≡ answer 0 0
 unfolding problem cnf cnf-words variables known-version inputs-limit latches-limit gates-limit nodes-limit bound-limit part-checks parts-checked problem-checked room-checked judge-of-cnf judge-refutation judge-clauses judge-steps refutation-checks area-checks step-accepted
 T-is-refuted = refl
 
-T-is-not-refuted : judge-refutation 1 T-words (pos 0 ∷ pos 12 ∷ pos 5 ∷ pos 0 ∷ []) 38 7 13 ≡ answer 13 0
+T-is-not-refuted : judge-refutation 1 T-words T-other-steps 38 7 13 ≡ answer 13 0
 unfolding problem cnf cnf-words variables known-version inputs-limit latches-limit gates-limit nodes-limit bound-limit part-checks parts-checked problem-checked room-checked judge-of-cnf judge-refutation judge-clauses judge-steps refutation-checks area-checks step-accepted
 T-is-not-refuted = refl
 

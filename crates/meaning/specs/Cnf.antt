@@ -8,7 +8,7 @@ use lib.ListN.{length}
 use Rattle.clauses.specs.Lists.{numbers, each}
 use Rattle.clauses.specs.Clauses.{Clause, negated}
 use Rattle.clauses.specs.CnfWords.{words-of}
-use Rattle.meaning.specs.Problem.{Problem, Latch, Gate, Left, Node, W, latch-variable, gate-variable, latch, gate, node, constant, child, atom, both, either, next, until, release}
+use Rattle.meaning.specs.Problem.{Problem, Left, Node, W, latch-variable, gate-variable, latch, gate, node, constant, child, atom, both, either, next, until, release}
 use Rattle.meaning.specs.Runs.{odd}
 
 -- ════════ Variables ════════

@@ -1,6 +1,6 @@
 -- Document 01, "Job file and program": the bytes of a job (15), the CNF's text, and what the program prints. Assumes nothing.
-use mathlib.Core.Bool.{Bool, true, false, _&&_, cond}
-use mathlib.Core.List.{List, [], _∷_, _++_, map, foldr}
+use mathlib.Core.Bool.{true, false, _&&_}
+use mathlib.Core.List.{List, [], _∷_, _++_, map}
 use Prim.Native.Nat.{ℕ, zero, suc, _+_, _*_, _-_, _/_, _%_}
 use Prim.Native.Char.{code}
 use Prim.Native.String.{String, [] as no-text, _∷_ as _then_}
@@ -8,11 +8,11 @@ use lib.Dec.{leb, ltb, eqb}
 use lib.IntN.{ℤ, pos, negsuc}
 use lib.ListN.{length, getD, take, drop}
 use Rattle.clauses.specs.Lists.{numbers, each}
-use Rattle.clauses.specs.Answers.{Answer, Check, check, first-failing, granted}
+use Rattle.clauses.specs.Answers.{Answer, Check, check, first-failing}
 use Rattle.clauses.specs.Clauses.{Clause}
 use Rattle.meaning.specs.Limits.{job-limit, program-room}
 use Rattle.meaning.specs.Answers.{bad-job}
-use Rattle.meaning.specs.Problem.{Problem, problem}
+use Rattle.meaning.specs.Problem.{problem}
 use Rattle.meaning.specs.Check.{known-version}
 use Rattle.meaning.specs.Cnf.{cnf, variables}
 use Rattle.meaning.specs.Calls.{write-cnf}

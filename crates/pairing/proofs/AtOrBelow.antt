@@ -1,13 +1,13 @@
 -- The CNF can be satisfied exactly if a witness exists at a bound from 0 to k; and what its refutations say. Assumes nothing.
-use mathlib.Core.Path.{_≡_, refl, sym, _∙_, ap}
+use mathlib.Core.Path.{_≡_, refl, sym, _∙_}
 use mathlib.Core.List.{List, [], _∷_}
 use Prim.Native.Nat.{ℕ, _≤_}
 use native.Mathlib.Nat.{le-refl}
 use lib.IntN.{ℤ}
-use Rattle.clauses.specs.Answers.{Answer, granted}
+use Rattle.clauses.specs.Answers.{granted}
 use Rattle.clauses.specs.Clauses.{Assignment}
 use Rattle.clauses.specs.Refutable.{Refutation}
-use Rattle.clauses.proofs.Answers.{after-if-granted}
+use Rattle.clauses.proofs.Answers.{after-if-granted, number-of}
 use Rattle.clauses.proofs.Sound.{refuted-clauses}
 use Rattle.clauses.proofs.Complete.{refutable}
 use Rattle.meaning.specs.Problem.{Problem, problem}
@@ -46,7 +46,7 @@ module _ (p : Problem) (proper : Proper p) where
 module _ (version : ℕ) (ws : List ℕ) (refutation : List ℤ) (room m n : ℕ) (yes-said : judge-refutation version ws refutation room m n ≡ granted 0) where
   formed-if-refuted : WellFormed version ws
   unfolding judge-refutation
-  formed-if-refuted = well-formed-if-checked version ws _ (ap (λ (x : Answer). x .number) yes-said)
+  formed-if-refuted = well-formed-if-checked version ws _ (number-of yes-said)
 
   -- The checks of the problem and of the room pass, so the answer is that to the CNF's refutation.
   cnf-refuted : judge-of-cnf (problem ws) refutation m n ≡ granted 0

@@ -5,18 +5,19 @@ use mathlib.Core.List.{List, [], _∷_, _++_, map}
 use Prim.Native.Nat.{ℕ, zero, suc, _+_, _*_, _<_, _≤_, zero-le, suc-le-suc}
 use native.Mathlib.Nat.{le-of-suc-le-suc, not-suc-le-zero, add-zero, zero-add, mul-zero, mul-suc, mul-comm, mul-le-mul-left}
 use native.Mathlib.Omega.{arith}
+use borrow.Author.Tests.{leb-true, ne-eqb}
 use lib.Dec.{eqb, leb}
 use lib.ListN.{length, getD, take, drop, length-append, length-drop, List·getD-map, take-append-drop}
-use lib.Seq.{getD-take, getD-drop, take-at, drop-at, drop-drop, take-all, length-take-le, ext-getD}
+use lib.Seq.{getD-take, getD-drop, take-at, drop-at, drop-drop, length-take-le, ext-getD}
 use Rattle.clauses.specs.Lists.{numbers, each, all-of}
-use Rattle.clauses.proofs.Satisfaction.{both-true, false-if-not-true, le-if-leb, eq-if-eqb, eqb-self, all-of-append, all-of-at, all-of-map, all-of-if-member}
+use Rattle.clauses.proofs.Satisfaction.{both-true, eqb-self, all-of-append, all-of-at, all-of-map, all-of-if-member}
 use Rattle.meaning.specs.Problem.{Problem, latch-variable}
 use Rattle.meaning.specs.Bounded.{prefix, lasso}
 use Rattle.meaning.specs.Witnesses.{witness-length, byte, shape-of, shape, bits, first-latches, inputs-at}
 use Rattle.meaning.proofs.Numbers.{length-map-numbers, getD-map-numbers, all-of-each}
 use Rattle.pairing.specs.ModelLaws.{Reading, all-positions}
 use Rattle.pairing.proofs.Loops.{shifted}
-use Rattle.pairing.proofs.Blocks.{length-each}
+use Rattle.pairing.proofs.Blocks.{length-each, cut, cut-each, cut-end}
 use Rattle.pairing.specs.Bytes.{first-chosen, chosen-of, bit-byte, latch-bytes, input-bytes, bytes-of-reading}
 
 -- ════════ Lists of the same length, one after another ════════
@@ -31,23 +32,6 @@ module _ {B : Type 0} (f : ℕ → List B) (n : ℕ) (as-long : (t : ℕ) → le
   part-of-each i zero t h = absurd (not-suc-le-zero h)
   part-of-each i (suc m) zero h = rw (mul-zero, add-zero) (take-at (f i) _ n (as-long i))
   part-of-each i (suc m) (suc t) h = rw drop-each (part-of-each (suc i) m t (le-of-suc-le-suc h) ∙ ap f (omega arith))
-
--- A list is its parts, one after another.
-each-of-parts : {B : Type 0} (f : ℕ → List B) (n i m : ℕ) (bs : List B) → length bs ≡ n * m
-    → ((t : ℕ) → t < m → f (i + t) ≡ take n (drop (n * t) bs)) → each (numbers i m) f ≡ bs
-each-of-parts f n i zero bs l parts = take-all 0 bs (omega (arith, mul-zero n))
-each-of-parts f n i (suc m) bs l parts =
-    rw (each-of-parts f n (suc i) m (drop n bs) (rw length-drop (omega (arith, mul-suc n m))) later, first)
-    (take-append-drop n bs)
-  where
-    first : f i ≡ take n bs
-    first = rw (add-zero, mul-zero) at (parts 0 (suc-le-suc zero-le))
-
-    later : (t : ℕ) → t < m → f (suc i + t) ≡ take n (drop (n * t) (drop n bs))
-    later t h =
-        let number : suc i + t ≡ i + suc t = omega arith in
-        let place : n + n * t ≡ n * suc t = omega (arith, mul-suc n t) in
-        rw (number, drop-drop, place) (parts (suc t) (suc-le-suc h))
 
 -- ════════ Bits and bytes ════════
 
@@ -136,7 +120,7 @@ module _ (p : Problem) (r : Reading) where
   unfolding bytes-of-reading
   bytes-bits zero l h = absurd (not-suc-le-zero l)
   bytes-bits (suc i) l h =
-      le-if-leb _ 1 (all-of-at is-bit (latch-bytes p r ++ each (all-positions p) (input-bytes p r)) i 0
+      leb-true _ 1 (all-of-at is-bit (latch-bytes p r ++ each (all-positions p) (input-bytes p r)) i 0
       (rw all-of-append
       (both-true (bytes-are-bits (λ j. r .circuit 0 (latch-variable p j)) (numbers 0 (length (p .latches))))
       (all-of-each is-bit (input-bytes p r) (all-positions p) (λ t. bytes-are-bits (λ j. r .circuit t (suc j)) (numbers 0 (p .inputs))))))
@@ -176,7 +160,7 @@ first-byte-back : (f : ℕ → Bool) (k b : ℕ) → b ≤ k + 1 → ((l : ℕ) 
 first-byte-back f k zero h same = first-chosen-none f 0 (k + 1) (λ l q. rw zero-add (same l (omega arith)))
 first-byte-back f k (suc m) h same =
     first-chosen-one f 0 (k + 1) m (omega arith) (rw zero-add (same m (omega arith) ∙ eqb-self m))
-    (λ l q. rw zero-add (same l (omega arith) ∙ false-if-not-true (eqb l m) (λ e. omega (arith, eq-if-eqb l m e))))
+    (λ l q. rw zero-add (same l (omega arith) ∙ ne-eqb l m (λ e. omega arith)))
     ∙ ap suc (zero-add m)
 
 pub bytes-back : (p : Problem) (r : Reading) (bs : List ℕ) → length bs ≡ witness-length p → byte bs 0 ≤ p .bound + 1
@@ -205,13 +189,15 @@ bytes-back p r (b ∷ bs) l start small chosen latches inputs =
     fits : (t : ℕ) → t < p .bound + 1 → L + (I * t + I) ≤ length bs
     fits t h = omega (arith, mul-suc I t, mul-le-mul-left {m = suc t} {n = p .bound + 1} I h)
 
-    part-back : (t : ℕ) → t < p .bound + 1 → input-bytes p r t ≡ take I (drop (I * t) (drop L bs))
+    part-back : (t : ℕ) → t < p .bound + 1 → input-bytes p r t ≡ cut bs (L + I * t) I
     part-back t h =
         bytes-of-bits (λ i. r .circuit t (suc i)) I _ (length-take-le I _ (simp length-drop (omega (arith, fits t h))))
-        (λ i q. rw (getD-take, getD-drop, getD-drop) (small (suc (L + (I * t + i))) (omega arith) (omega (arith, fits t h))))
+        (λ i q. rw (getD-take, getD-drop) (small (suc (L + I * t + i)) (omega arith) (omega (arith, fits t h))))
         (λ i q.
         let place : 1 + L + I * t ≡ suc (L + I * t) = omega arith in
-        rw drop-drop (rw place at (inputs t i (omega arith) q)))
+        rw place at (inputs t i (omega arith) q))
 
     inputs-back : each (all-positions p) (input-bytes p r) ≡ drop L bs
-    inputs-back = each-of-parts (input-bytes p r) I 0 (p .bound + 1) (drop L bs) (rw length-drop (omega arith)) (λ t h. rw zero-add (part-back t h))
+    inputs-back =
+        cut-each bs (input-bytes p r) I L 0 (p .bound + 1) (λ t h. rw (zero-add, mul-comm) (part-back t h))
+        ∙ cut-end bs L ((p .bound + 1) * I) (omega (arith, mul-comm (p .bound + 1) I))

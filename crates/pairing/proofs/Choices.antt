@@ -2,22 +2,24 @@
 use mathlib.Core.Path.{_≡_, refl, sym, _∙_}
 use mathlib.Core.Logic.{_⊎_, inl, inr}
 use mathlib.Core.Bool.{Bool, true, false, _&&_}
-use Prim.Native.Nat.{ℕ, zero, suc, _+_, _≤_, _<_, zero-le}
-use native.Mathlib.Nat.{eq-or-lt-of-le, le-of-suc-le-suc, not-suc-le-zero}
+use Prim.Native.Nat.{ℕ, _+_, _≤_, _<_, zero-le}
+use native.Mathlib.Nat.{eq-or-lt-of-le}
 use native.Mathlib.Decide.{decLe}
 use native.Mathlib.Omega.{arith}
+use borrow.Author.Tests.{eqb-true, ne-eqb}
 use lib.Dec.{eqb}
 use Rattle.clauses.specs.Lists.{some-of}
-use Rattle.clauses.proofs.Satisfaction.{both-true, first-true, second-true, not-both, false-if-not-true, eq-if-eqb, eqb-self, some-of-member, some-of-witness}
+use Rattle.clauses.proofs.Satisfaction.{both-true, first-true, second-true, not-both, false-if-not-true, eqb-self, some-of-member, some-of-witness}
 use Rattle.meaning.specs.Problem.{Problem}
 use Rattle.meaning.specs.Bounded.{Shape, prefix, lasso}
 use Rattle.meaning.specs.Witnesses.{shape}
+use Rattle.meaning.proofs.Numbers.{member-of-numbers, numbers-bounds}
 use Rattle.pairing.specs.NodeLaws.{E-value}
 use Rattle.pairing.specs.ModelLaws.{Reading, all-positions}
 use Rattle.pairing.specs.Bytes.{chosen-of, bytes-of-reading}
-use Rattle.pairing.proofs.Unrolled.{member-of-numbers, numbers-bounds}
 use Rattle.pairing.proofs.NodeValues.{StartWithin}
 use Rattle.pairing.proofs.Bytes.{bytes-prefix, bytes-lasso}
+use Rattle.pairing.proofs.Loops.{first-or-none}
 
 -- From 0 to k what is chosen is what the shape chooses.
 abbrev pub Chooses : Problem → (ℕ → Bool) → Shape → Type 0
@@ -27,46 +29,26 @@ Chooses p chosen s = (l : ℕ) → l ≤ p .bound → chosen l ≡ chosen-of s l
 pub chosen-once : (s : Shape) (l m : ℕ) → l < m → chosen-of s l && chosen-of s m ≡ false
 chosen-once prefix l m h = refl
 chosen-once (lasso n) l m h = false-if-not-true _ (λ e.
-    let left : l ≡ n = eq-if-eqb l n (first-true (eqb l n) _ e) in
-    let right : m ≡ n = eq-if-eqb m n (second-true (eqb l n) _ e) in
+    let left : l ≡ n = eqb-true l n (first-true (eqb l n) _ e) in
+    let right : m ≡ n = eqb-true m n (second-true (eqb l n) _ e) in
     omega arith)
 
 -- ════════ The shape of a reading's bytes ════════
-
--- The first that f chooses below n, or none.
-first-or-none : (f : ℕ → Bool) (n : ℕ)
-    → ((l : ℕ) → l < n → f l ≡ false) ⊎ ((l : ℕ) × (l < n) × (f l ≡ true) × ((m : ℕ) → m < l → f m ≡ false))
-first-or-none f zero = inl (λ l h. absurd (not-suc-le-zero h))
-first-or-none f (suc n) = go (first-or-none f n) (f n) refl
-  where
-    go : ((l : ℕ) → l < n → f l ≡ false) ⊎ ((l : ℕ) × (l < n) × (f l ≡ true) × ((m : ℕ) → m < l → f m ≡ false))
-        → (b : Bool) → f n ≡ b
-        → ((l : ℕ) → l < suc n → f l ≡ false) ⊎ ((l : ℕ) × (l < suc n) × (f l ≡ true) × ((m : ℕ) → m < l → f m ≡ false))
-    go (inr w) b e = inr (w .0, omega arith, w .2, w .3)
-    go (inl none) true e = inr (n, omega arith, e, none)
-    go (inl none) false e = inl (λ l h. last l (eq-or-lt-of-le (le-of-suc-le-suc h)))
-      where
-        last : (l : ℕ) → (l ≡ n) ⊎ (l < n) → f l ≡ false
-        last l (inl q) = rw q e
-        last l (inr h) = none l h
 
 module _ (p : Problem) (r : Reading) (single : (l m : ℕ) → l < m → m ≤ p .bound → r .chosen l && r .chosen m ≡ false) where
   -- Where the first is chosen, and no two, no other is.
   only-first : (m : ℕ) → m ≤ p .bound → r .chosen m ≡ true → ((l : ℕ) → l < m → r .chosen l ≡ false) → Chooses p (r .chosen) (lasso m)
   only-first m k c before l h = go (decLe m l)
     where
-      other : eqb l m ≡ true → l ≡ m
-      other = eq-if-eqb l m
-
       go : Dec (m ≤ l) → r .chosen l ≡ eqb l m
-      go (no n) = before l (omega arith) ∙ sym (false-if-not-true (eqb l m) (λ e. n (omega (arith, other e))))
+      go (no n) = before l (omega arith) ∙ sym (ne-eqb l m (λ e. n (omega arith)))
       go (yes q) = at (eq-or-lt-of-le q)
         where
           at : (m ≡ l) ⊎ (m < l) → r .chosen l ≡ eqb l m
           at (inl e) = rw (← e) (c ∙ sym (eqb-self m))
           at (inr q′) =
               false-if-not-true (r .chosen l) (λ e. not-both (both-true c e) (single m l q′ h))
-              ∙ sym (false-if-not-true (eqb l m) (λ e. omega (arith, other e)))
+              ∙ sym (ne-eqb l m (λ e. omega arith))
 
   pub bytes-choose : Chooses p (r .chosen) (shape (bytes-of-reading p r))
   bytes-choose = go (first-or-none (r .chosen) (p .bound + 1))
@@ -94,7 +76,7 @@ module _ (p : Problem) (chosen Q : ℕ → Bool) (e : Bool) where
 
   pub end-at-chosen : (s : Shape) → Chooses p chosen s → e ≡ E-value s Q → (l : ℕ) → l ≤ p .bound → chosen l ≡ true → e ≡ Q l
   end-at-chosen prefix same law l h c = absurd (not-both c (same l h))
-  end-at-chosen (lasso m) same law l h c = rw (eq-if-eqb l m (sym (same l h) ∙ c)) law
+  end-at-chosen (lasso m) same law l h c = rw (eqb-true l m (sym (same l h) ∙ c)) law
 
   pub end-closed : (s : Shape) → StartWithin s p → Chooses p chosen s → e ≡ E-value s Q → e ≡ true
       → some-of chosen (all-positions p) ≡ true

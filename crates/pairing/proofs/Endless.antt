@@ -14,7 +14,8 @@ use Rattle.meaning.specs.Witnesses.{witness-length, byte, shape, first-latches,
 use Rattle.pairing.proofs.Loops.{after-cases, looped-within}
 use Rattle.pairing.proofs.Meaning.{prefix-value-true}
 use Rattle.pairing.proofs.Runs.{position-first, position-inputs, position-next, length-first-latches, length-inputs-at}
-use Rattle.pairing.proofs.Witnesses.{Fits, shape-fits, accepted-is-witness}
+use Rattle.pairing.proofs.Witnesses.{accepted-is-witness}
+use Rattle.pairing.proofs.NodeValues.{StartWithin, start-within}
 
 -- ════════ A lasso ════════
 
@@ -44,7 +45,7 @@ module _ (p : Problem) (bs : List ℕ) (l : ℕ) where
       → EndlessRun p (lasso-path p bs l) × Holds p (formula p) (lasso-path p bs l) 0
   lasso-true e is-lasso =
       let w = accepted-is-witness p bs .0 e in
-      let fits : Fits (p .bound) (lasso l) = rw is-lasso at (shape-fits (p .bound) (byte bs 0) (w .start-in-range)) in
+      let fits : StartWithin (lasso l) p = rw is-lasso at (start-within p (byte bs 0) (w .start-in-range)) in
       let shown : Shows p bs (lasso l) = rw is-lasso at (w .shows) in
       (lasso-path-run w fits (shown .0), shown .1)
 

@@ -42,7 +42,7 @@ length-with-gates [] vs = sym (add-zero (length vs))
 length-with-gates (g ∷ gs) vs = length-with-gates gs _ ∙ simp length-append (omega arith)
 
 -- The values that are there stay.
-with-gates-before : (gs : List Gate) (vs : List Bool) (v : ℕ) → v < length vs → getD (with-gates gs vs) v false ≡ getD vs v false
+pub with-gates-before : (gs : List Gate) (vs : List Bool) (v : ℕ) → v < length vs → getD (with-gates gs vs) v false ≡ getD vs v false
 with-gates-before [] vs v h = refl
 with-gates-before (g ∷ gs) vs v h =
     with-gates-before gs _ v (simp length-append (omega arith)) ∙ List·getD-append vs _ false v h
@@ -117,10 +117,6 @@ module _ (p : Problem) (x : Position) (inputs-there : length (x .inputs) ≡ p .
   pub values-length : length (values p x) ≡ W p + 1
   unfolding values
   values-length = length-with-gates (p .gates) (given x) ∙ omega (arith, given-length)
-
-  pub values-zero : getD (values p x) 0 false ≡ false
-  unfolding values
-  values-zero = with-gates-before (p .gates) (given x) 0 (suc-le-suc zero-le)
 
   pub values-input : (i : ℕ) → i < p .inputs → getD (values p x) (suc i) false ≡ getD (x .inputs) i false
   unfolding values

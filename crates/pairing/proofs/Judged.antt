@@ -1,9 +1,10 @@
 -- The judge of words and bytes says yes exactly to well-formed words with a witness of their problem. Assumes nothing.
-use mathlib.Core.Path.{_≡_, sym, _∙_, ap}
+use mathlib.Core.Path.{_≡_, sym, _∙_}
 use mathlib.Core.Logic.{_↔_}
 use mathlib.Core.List.{List}
 use Prim.Native.Nat.{ℕ}
-use Rattle.clauses.specs.Answers.{Answer, granted}
+use Rattle.clauses.specs.Answers.{granted}
+use Rattle.clauses.proofs.Answers.{number-of}
 use Rattle.meaning.specs.Problem.{problem}
 use Rattle.meaning.specs.Check.{WellFormed}
 use Rattle.meaning.specs.Witnesses.{Witness, judge-bytes}
@@ -15,7 +16,7 @@ module _ (version : ℕ) (ws bs : List ℕ) where
   judged-forth : judge-witness version ws bs ≡ granted 0 → WellFormed version ws × Witness (problem ws) bs
   unfolding judge-witness
   judged-forth e =
-      let formed = well-formed-if-checked version ws (judge-bytes (problem ws) bs) (ap (λ (a : Answer). a .number) e) in
+      let formed = well-formed-if-checked version ws (judge-bytes (problem ws) bs) (number-of e) in
       (formed, accepted-is-witness (problem ws) bs .0 (sym (checked-if-well-formed version ws (judge-bytes (problem ws) bs) formed) ∙ e))
 
   judged-back : WellFormed version ws × Witness (problem ws) bs → judge-witness version ws bs ≡ granted 0

@@ -2,8 +2,8 @@
 use mathlib.Core.Path.{_≡_, refl, sym, _∙_}
 use mathlib.Core.Bool.{false}
 use mathlib.Core.List.{[], _∷_, map}
-use Prim.Native.Nat.{ℕ, zero, suc, _+_, _*_, _-_, _≤_, _<_}
-use native.Mathlib.Nat.{zero-add, add-assoc, add-suc, suc-add, suc-mul, mul-le-mul-right, mul-add, mul-one, not-suc-le-zero}
+use Prim.Native.Nat.{ℕ, suc, _+_, _*_, _≤_, _<_}
+use native.Mathlib.Nat.{zero-add, add-assoc, add-suc, suc-add, suc-mul, mul-le-mul-right, mul-add, mul-one}
 use native.Mathlib.Numerals.{one-add}
 use native.Mathlib.Omega.{arith}
 use lib.IntN.{pos}
@@ -14,6 +14,7 @@ use Rattle.clauses.specs.Clauses.{Assignment, literal-true}
 use Rattle.meaning.specs.Problem.{Problem, W}
 use Rattle.meaning.specs.Cnf.{node-variables, variables}
 use Rattle.meaning.proofs.Numbers.{length-map-numbers, getD-map-numbers, getD-map-numbers-from}
+use Rattle.meaning.proofs.Counts.{last-of}
 use Rattle.pairing.specs.ModelLaws.{Reading, reading, all-positions}
 use Rattle.pairing.specs.Layout.{circuit-values, chosen-values, node-values, layout, Agree}
 use Rattle.pairing.proofs.Blocks.{getD-first, getD-second, length-each, getD-each, map-numbers-same, each-numbers-same, cut, cut-one, cut-end, cut-cut, cut-map, cut-each}
@@ -36,17 +37,13 @@ past-truth p = steps p * W p + (steps p + length (p .nodes) * node-width p)
 row-fits : (t n w : ℕ) → t < n → t * w + w ≤ n * w
 row-fits t n w l = rw suc-mul at (mul-le-mul-right w l)
 
-last-row : (n w : ℕ) → 1 ≤ n → n * w ≡ (n - 1) * w + w
-last-row zero w l = absurd (not-suc-le-zero l)
-last-row (suc n) w l = let e : suc n - 1 ≡ n = omega arith in rw (e, suc-mul)
-
 -- Variable m of node n: the constant's, the circuit's and the selectors' come before it, and those of n nodes.
 node-place : (p : Problem) (n m : ℕ) → node-variables p n + m ≡ suc (suc (steps p * W p + (steps p + (n * node-width p + m))))
 node-place p n m = rw (mul-add (steps p) (W p) 1, mul-one) (omega arith)
 
 variables-count : (p : Problem) → 1 ≤ length (p .nodes) → variables p ≡ suc (past-truth p)
 unfolding variables
-variables-count p l = rw (mul-add (steps p) (W p) 1, mul-one, last-row (length (p .nodes)) (node-width p) l) (omega arith)
+variables-count p l = rw (mul-add (steps p) (W p) 1, mul-one, last-of (length (p .nodes)) (node-width p) l) (omega arith)
 
 -- ════════ The length of the layout ════════
 

@@ -2,20 +2,21 @@
 use mathlib.Core.Path.{_≡_, refl, sym, _∙_, ap}
 use mathlib.Core.Logic.{_⊎_, inl, inr, _↔_}
 use mathlib.Core.Bool.{Bool, true, false, cond}
-use mathlib.Core.List.{List, [], _∷_, _++_, map, List·Memᴰ, List·Memᴰ·head, List·Memᴰ·tail, List·Memᴰ·not-nil, List·Memᴰ·cases-cons, List·Memᴰ·append-cases, Memᴰ·cast, Memᴰ·append-left, Memᴰ·append-right, Memᴰ·map, Memᴰ·of-map}
+use mathlib.Core.List.{List, [], _∷_, _++_, map, List·Memᴰ, List·Memᴰ·head, List·Memᴰ·tail, List·Memᴰ·not-nil, List·Memᴰ·append-cases, Memᴰ·cast, Memᴰ·append-left, Memᴰ·append-right, Memᴰ·map, Memᴰ·of-map}
 use Prim.Native.Nat.{ℕ, zero, suc, _+_, _*_, _<_, _≤_, zero-le, suc-le-suc}
-use native.Mathlib.Nat.{le-of-suc-le-suc, not-suc-le-zero, add-zero, zero-add}
+use native.Mathlib.Nat.{le-of-suc-le-suc, not-suc-le-zero}
 use native.Mathlib.Omega.{arith}
+use borrow.Author.Tests.{eqb-true}
 use lib.Dec.{eqb}
 use lib.ListN.{length, getD, drop}
 use Rattle.clauses.specs.Lists.{numbers, each, all-of, those}
 use Rattle.clauses.specs.Answers.{Answer, Check, first-failing, granted}
-use Rattle.clauses.proofs.Satisfaction.{eq-if-eqb, all-of-member, those-member, those-pass}
+use Rattle.clauses.proofs.Satisfaction.{all-of-member, those-member, those-pass, of-those}
 use Rattle.clauses.proofs.Answers.{refusing, all-pass-if-yes, first-failing-passed}
 use Rattle.meaning.specs.Problem.{Problem}
 use Rattle.meaning.specs.Witnesses.{byte, shape, Witness, byte-checks, reset-checks, loop-checks, formula-check, judge-formula, judge-run, judge-bytes, all-bits, candidates, witnesses}
+use Rattle.meaning.proofs.Numbers.{member-of-numbers, numbers-bounds}
 use Rattle.pairing.specs.Bounds.{Once}
-use Rattle.pairing.proofs.Loops.{shifted}
 use Rattle.pairing.proofs.Witnesses.{byte-checks-refusing, run-checks-refusing, accepted-is-witness}
 
 -- ════════ The judge's yes ════════
@@ -35,11 +36,6 @@ granted-if-yes p bs e =
     to-run ∙ to-formula ∙ after-if-yes (formula-check p bs ∷ []) (granted 0) refl formula-yes
 
 -- ════════ Members ════════
-
-numbers-member : (i n j : ℕ) → j < n → List·Memᴰ (i + j) (numbers i n)
-numbers-member i zero j h = absurd (not-suc-le-zero h)
-numbers-member i (suc n) zero h = List·Memᴰ·head (add-zero i)
-numbers-member i (suc n) (suc j) h = List·Memᴰ·tail (Memᴰ·cast (sym (shifted i j)) (numbers-member (suc i) n j (le-of-suc-le-suc h)))
 
 module _ {A B : Type 0} (f : A → List B) where
   each-member : {x : A} {xs : List A} {y : B} → List·Memᴰ x xs → List·Memᴰ y (f x) → List·Memᴰ y (each xs f)
@@ -78,7 +74,7 @@ module _ (p : Problem) where
   candidate-if-witness [] w = absurd (omega (arith, w .length-right))
   candidate-if-witness (b ∷ bs) w =
       each-member (λ c. map (λ ds. c ∷ ds) (all-bits (after-first p)))
-      (Memᴰ·cast (sym (zero-add b)) (numbers-member 0 (p .bound + 2) b (omega (arith, w .start-in-range))))
+      (member-of-numbers 0 (p .bound + 2) b zero-le (omega (arith, w .start-in-range)))
       (Memᴰ·map (λ (ds : List ℕ). b ∷ ds) (bits-listed (after-first p) bs (omega (arith, w .length-right))
       (λ i h. w .bits-in-range (suc i) (suc-le-suc zero-le) (suc-le-suc h))))
 
@@ -86,7 +82,7 @@ module _ (p : Problem) where
   pub listed-is-witness : (bs : List ℕ) → List·Memᴰ bs (witnesses p) ↔ Witness p bs
   unfolding witnesses
   listed-is-witness bs = (
-    λ m. accepted-is-witness p bs .0 (granted-if-yes p bs (eq-if-eqb _ 0 (all-of-member _ m (those-pass _ (candidates p))))),
+    λ m. accepted-is-witness p bs .0 (granted-if-yes p bs (eqb-true _ 0 (all-of-member _ m (those-pass _ (candidates p))))),
     λ w. those-member _ (candidate-if-witness bs w) (rw (accepted-is-witness p bs .1 w)),
   )
 
@@ -111,19 +107,6 @@ module _ {A : Type 0} where
       go : List·Memᴰ x xs ⊎ List·Memᴰ x ys → ⊥
       go (inl m) = a .0 m
       go (inr m) = none x (List·Memᴰ·head refl) m
-
-  of-those : (f : A → Bool) {x : A} (xs : List A) → List·Memᴰ x (those f xs) → List·Memᴰ x xs
-  of-those f [] m = m
-  of-those f {x} (y ∷ xs) m = go (f y) m (λ (q : List·Memᴰ x (those f xs)). of-those f xs q)
-    where
-      there : (List·Memᴰ x (those f xs) → List·Memᴰ x xs) → (x ≡ y) ⊎ List·Memᴰ x (those f xs) → List·Memᴰ x (y ∷ xs)
-      there later (inl e) = List·Memᴰ·head e
-      there later (inr q) = List·Memᴰ·tail (later q)
-
-      go : (b : Bool) → List·Memᴰ x (cond b (y ∷ those f xs) (those f xs)) → (List·Memᴰ x (those f xs) → List·Memᴰ x xs)
-          → List·Memᴰ x (y ∷ xs)
-      go true q later = there later (List·Memᴰ·cases-cons q)
-      go false q later = List·Memᴰ·tail (later q)
 
   apart-those : (f : A → Bool) (xs : List A) → Apart xs → Apart (those f xs)
   apart-those f [] a = tt
@@ -154,17 +137,9 @@ once-if-apart (x ∷ xs) a (suc i) (suc j) h l e = once-if-apart xs (a .1) i j (
 
 -- ════════ The list has each once ════════
 
-numbers-from : (i n : ℕ) {j : ℕ} → List·Memᴰ j (numbers i n) → i ≤ j
-numbers-from i zero m = absurd (List·Memᴰ·not-nil m)
-numbers-from i (suc n) {j} m = go (List·Memᴰ·cases-cons m) (λ (q : List·Memᴰ j (numbers (suc i) n)). numbers-from (suc i) n q)
-  where
-    go : (j ≡ i) ⊎ List·Memᴰ j (numbers (suc i) n) → (List·Memᴰ j (numbers (suc i) n) → suc i ≤ j) → i ≤ j
-    go (inl e) later = omega arith
-    go (inr q) later = omega (arith, later q)
-
 apart-numbers : (i n : ℕ) → Apart (numbers i n)
 apart-numbers i zero = tt
-apart-numbers i (suc n) = (λ m. omega (arith, numbers-from (suc i) n m), apart-numbers (suc i) n)
+apart-numbers i (suc n) = (λ m. omega (arith, numbers-bounds (suc i) n m .0), apart-numbers (suc i) n)
 
 cons-same : (b c : ℕ) (bs cs : List ℕ) → _≡_ {A = List ℕ} (b ∷ bs) (c ∷ cs) → (b ≡ c) × (bs ≡ cs)
 cons-same b c bs cs e = (ap (λ ds. byte ds 0) e, ap (drop 1) e)

@@ -8,11 +8,11 @@ use native.Mathlib.Nat.{le-refl, le-of-suc-le-suc, not-suc-le-zero, eq-or-lt-of-
 use native.Mathlib.Decide.{decLe}
 use native.Mathlib.Numerals.{add-one, one-add}
 use native.Mathlib.Omega.{arith}
+use borrow.Author.Tests.{leb-true}
 use lib.Dec.{ltb}
 use lib.ListN.{length, take, drop, replicate, length-append, length-take, length-drop, length-replicate, getD-replicate, List·getD-append}
 use lib.Seq.{take-append-le, drop-append-le, take-all, drop-at, drop-drop, getD-take, getD-drop, getD-append-add}
 use Rattle.clauses.specs.Lists.{numbers}
-use Rattle.clauses.proofs.Satisfaction.{le-if-leb}
 use Rattle.meaning.specs.Problem.{Problem}
 use Rattle.meaning.specs.Runs.{Position, values, next-values}
 use Rattle.meaning.specs.Formulas.{Formula, atom, both, either, next, until, release, formula, Holds, True}
@@ -45,7 +45,7 @@ module _ (k : ℕ) (rows rows′ : ℕ → List Bool) (agree : (t : ℕ) → t �
   prefix-value-agrees (next f) i h = go (ltb i k) refl (prefix-value-agrees f (suc i))
     where
       go : {a c : Bool} (b : Bool) → ltb i k ≡ b → (suc i ≤ k → a ≡ c) → b && a ≡ b && c
-      go true e later = later (le-if-leb (suc i) k e)
+      go true e later = later (leb-true (suc i) k e)
       go false e later = refl
   prefix-value-agrees (until f g) i h =
       until-agrees k _ _ _ _ (prefix-value-agrees f) (prefix-value-agrees g) false (suc k - i) i (omega arith)

@@ -1,15 +1,15 @@
 -- The unfoldings of U and R over positions in a row, and the endless path of a lasso. Assumes nothing.
 use mathlib.Core.Path.{_≡_, refl, sym, _∙_, ap}
 use mathlib.Core.Logic.{_⊎_, inl, inr}
-use mathlib.Core.Bool.{Bool, true, false, not, _&&_, _||_, cond, false≢true, and-or-distrib-left}
+use mathlib.Core.Bool.{Bool, true, false, not, _&&_, _||_, false≢true, and-or-distrib-left}
 use mathlib.Core.List.{List, [], _∷_}
 use Prim.Native.Nat.{ℕ, zero, suc, _+_, _-_, _<_, _≤_, zero-le, suc-le-suc}
 use native.Mathlib.Nat.{le-of-suc-le-suc, not-suc-le-zero, le-refl, add-zero, add-suc, eq-or-lt-of-le}
 use native.Mathlib.Decide.{decLe}
 use native.Mathlib.Omega.{arith}
-use lib.Dec.{eqb}
+use borrow.Author.Tests.{not-true, ne-eqb}
 use Rattle.clauses.specs.Lists.{numbers}
-use Rattle.clauses.proofs.Satisfaction.{both-true, first-true, second-true, one-true, or-first, or-second, not-true, not-both, false-if-not-true, eq-if-eqb, eqb-self}
+use Rattle.clauses.proofs.Satisfaction.{both-true, first-true, second-true, one-true, or-first, or-second, not-both, false-if-not-true, eqb-self}
 use Rattle.meaning.specs.Bounded.{after, looped, onward, until-over, release-over}
 
 -- ════════ U over positions in a row ════════
@@ -75,33 +75,49 @@ module _ (f g : ℕ → Bool) where
   release-as-until [] = refl
   release-as-until (i ∷ is) = rw (release-as-until is, and-or-distrib-left (g i))
 
+-- The first below n at which f holds, or none.
+pub first-or-none : (f : ℕ → Bool) (n : ℕ)
+    → ((l : ℕ) → l < n → f l ≡ false) ⊎ ((l : ℕ) × (l < n) × (f l ≡ true) × ((m : ℕ) → m < l → f m ≡ false))
+first-or-none f zero = inl (λ l h. absurd (not-suc-le-zero h))
+first-or-none f (suc n) = go (first-or-none f n) (f n) refl
+  where
+    go : ((l : ℕ) → l < n → f l ≡ false) ⊎ ((l : ℕ) × (l < n) × (f l ≡ true) × ((m : ℕ) → m < l → f m ≡ false))
+        → (b : Bool) → f n ≡ b
+        → ((l : ℕ) → l < suc n → f l ≡ false) ⊎ ((l : ℕ) × (l < suc n) × (f l ≡ true) × ((m : ℕ) → m < l → f m ≡ false))
+    go (inr w) b e = inr (w .0, omega arith, w .2, w .3)
+    go (inl none) true e = inr (n, omega arith, e, none)
+    go (inl none) false e = inl (λ l h. last l (eq-or-lt-of-le (le-of-suc-le-suc h)))
+      where
+        last : (l : ℕ) → (l ≡ n) ⊎ (l < n) → f l ≡ false
+        last l (inl q) = rw q e
+        last l (inr h) = none l h
+
 -- Among j positions from i on f holds at one, or at none.
 some-or-none : (f : ℕ → Bool) (i j : ℕ)
     → ((m : ℕ) × (m < j) × (f (i + m) ≡ true)) ⊎ ((m : ℕ) → m < j → not (f (i + m)) ≡ true)
-some-or-none f i zero = inr (λ m h. absurd (not-suc-le-zero h))
-some-or-none f i (suc j) = go (some-or-none f i j) (f (i + j)) refl
+some-or-none f i j = go (first-or-none (λ m. f (i + m)) j)
   where
-    go : ((m : ℕ) × (m < j) × (f (i + m) ≡ true)) ⊎ ((m : ℕ) → m < j → not (f (i + m)) ≡ true) → (b : Bool) → f (i + j) ≡ b
-        → ((m : ℕ) × (m < suc j) × (f (i + m) ≡ true)) ⊎ ((m : ℕ) → m < suc j → not (f (i + m)) ≡ true)
-    go (inl w) b e = inl (w .0, omega arith, w .2)
-    go (inr none) true e = inl (j, omega arith, e)
-    go (inr none) false e = inr (λ m h. last-too m (eq-or-lt-of-le (le-of-suc-le-suc h)))
-      where
-        last-too : (m : ℕ) → (m ≡ j) ⊎ (m < j) → not (f (i + m)) ≡ true
-        last-too m (inl p) = rw (p, e)
-        last-too m (inr h) = none m h
+    go : ((m : ℕ) → m < j → f (i + m) ≡ false) ⊎ ((m : ℕ) × (m < j) × (f (i + m) ≡ true) × ((n : ℕ) → n < m → f (i + n) ≡ false))
+        → ((m : ℕ) × (m < j) × (f (i + m) ≡ true)) ⊎ ((m : ℕ) → m < j → not (f (i + m)) ≡ true)
+    go (inl none) = inr (λ m h. rw (none m h))
+    go (inr w) = inl (w .0, w .1, w .2)
 
 -- ════════ The endless path of a lasso ════════
 
 module _ (l k : ℕ) where
+  pub after-last : after l k k ≡ l
+  after-last = rw eqb-self
+
+  pub after-inside : (i : ℕ) → i < k → after l k i ≡ suc i
+  after-inside i h = rw (ne-eqb i k (λ e. omega arith))
+
   -- After k stands l, after any other position the next one.
   pub after-cases : (i : ℕ) → i ≤ k → ((i ≡ k) × (after l k i ≡ l)) ⊎ ((i < k) × (after l k i ≡ suc i))
-  after-cases i h = go (eqb i k) refl (eq-or-lt-of-le h)
+  after-cases i h = go (eq-or-lt-of-le h)
     where
-      go : (b : Bool) → eqb i k ≡ b → (i ≡ k) ⊎ (i < k) → ((i ≡ k) × (cond b l (suc i) ≡ l)) ⊎ ((i < k) × (cond b l (suc i) ≡ suc i))
-      go true e d = inl (eq-if-eqb i k e, refl)
-      go false e (inl p) = absurd (not-both (eqb-self k) (rw p at e))
-      go false e (inr q) = inr (q, refl)
+      go : (i ≡ k) ⊎ (i < k) → ((i ≡ k) × (after l k i ≡ l)) ⊎ ((i < k) × (after l k i ≡ suc i))
+      go (inl e) = inl (e, rw (e, after-last))
+      go (inr q) = inr (q, after-inside i q)
 
   pub looped-early : (t : ℕ) → t ≤ k → looped l k t ≡ t
   looped-early zero h = refl

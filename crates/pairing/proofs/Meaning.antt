@@ -7,8 +7,9 @@ use Prim.Native.Nat.{ℕ, suc, _+_, _-_, _<_, _≤_}
 use native.Mathlib.Nat.{eq-or-lt-of-le}
 use native.Mathlib.Decide.{decLe}
 use native.Mathlib.Omega.{arith}
+use borrow.Author.Tests.{leb-true, le-leb}
 use lib.Dec.{ltb}
-use Rattle.clauses.proofs.Satisfaction.{both-true, first-true, second-true, one-true, or-first, or-second, le-if-leb, leb-if-le}
+use Rattle.clauses.proofs.Satisfaction.{both-true, first-true, second-true, one-true, or-first, or-second}
 use Rattle.meaning.specs.Formulas.{Formula, True, atom, both, either, next, until, release}
 use Rattle.meaning.specs.Bounded.{prefix, lasso, looped, bounded-value}
 use Rattle.pairing.proofs.Loops.{Until, until-found, until-if-found, release-as-until, until-round, until-if-round, release-round, release-if-round}
@@ -78,7 +79,7 @@ module _ (k : ℕ) (rows : ℕ → List Bool) where
       rw release-as-until (until-if-found (prefix-value g) (λ m. prefix-value g m && prefix-value f m) (suc k - i) i j (omega arith) u)
 
   next-on-prefix : (f : Formula) (i : ℕ) → prefix-value (next f) i ≡ true → (suc i ≤ k) × (prefix-value f (suc i) ≡ true)
-  next-on-prefix f i e = (le-if-leb (suc i) k (first-true (ltb i k) _ e), second-true (ltb i k) _ e)
+  next-on-prefix f i e = (leb-true (suc i) k (first-true (ltb i k) _ e), second-true (ltb i k) _ e)
 
 -- What is true of a prefix is true of every endless path that begins with it.
 module _ (k : ℕ) (rows path : ℕ → List Bool) (agree : (t : ℕ) → t ≤ k → path t ≡ rows t) where
@@ -126,7 +127,7 @@ longer-prefix k rows (either f g) i h e = go (one-true (prefix-value k rows f i)
     go {c} (inr p) left right = or-second c (right p)
 longer-prefix k rows (next f) i h e =
     let w = next-on-prefix k rows f i e in
-    both-true (leb-if-le (suc i) (suc k) (omega arith)) (longer-prefix k rows f (suc i) (w .0) (w .1))
+    both-true (le-leb (suc i) (suc k) (omega arith)) (longer-prefix k rows f (suc i) (w .0) (w .1))
 longer-prefix k rows (until f g) i h e =
     let w = until-on-prefix k rows f g i e in
     until-if-on-prefix (suc k) rows f g i (w .0) (omega arith)

@@ -7,9 +7,9 @@ use Prim.Native.Nat.{ℕ, zero, suc, _+_, _-_, _≤_, _<_}
 use native.Mathlib.Nat.{eq-or-lt-of-le, sub-self}
 use native.Mathlib.Numerals.{add-one}
 use native.Mathlib.Omega.{arith}
+use borrow.Author.Tests.{leb-true, le-leb, lt-leb}
 use lib.Dec.{leb}
 use Rattle.clauses.specs.Lists.{numbers}
-use Rattle.clauses.proofs.Satisfaction.{false-if-not-true, le-if-leb, leb-if-le}
 use Rattle.meaning.specs.Bounded.{until-over, release-over}
 use Rattle.pairing.specs.NodeLaws.{at-next}
 
@@ -17,10 +17,10 @@ use Rattle.pairing.specs.NodeLaws.{at-next}
 
 module _ (k : ℕ) where
   pub at-next-inside : (f : ℕ → Bool) (end : Bool) (i : ℕ) → i < k → at-next k f end i ≡ f (suc i)
-  at-next-inside f end i h = rw (add-one, leb-if-le (suc i) k h)
+  at-next-inside f end i h = rw (add-one, le-leb (suc i) k h)
 
   pub at-next-last : (f : ℕ → Bool) (end : Bool) → at-next k f end k ≡ end
-  at-next-last f end = rw (false-if-not-true (leb (k + 1) k) (λ e. let h = le-if-leb (k + 1) k e in omega arith))
+  at-next-last f end = rw (lt-leb (k + 1) k (omega arith))
 
   -- Where f itself has the end past k.
   pub at-next-is : (f : ℕ → Bool) (end : Bool) → f (suc k) ≡ end → (i : ℕ) → i ≤ k → f (suc i) ≡ at-next k f end i
@@ -30,12 +30,17 @@ module _ (k : ℕ) where
       go (inl q) = rw (q, at-next-last f end) e
       go (inr h′) = sym (at-next-inside f end i h′)
 
-  pub at-next-same : (f g : ℕ → Bool) (end end′ : Bool) → ((j : ℕ) → j ≤ k → f j ≡ g j) → end ≡ end′ → (i : ℕ) → at-next k f end i ≡ at-next k g end′ i
-  at-next-same f g end end′ same e i = go (leb (i + 1) k) refl
+  -- Only the next position is read.
+  pub at-next-stays : (f g : ℕ → Bool) (end end′ : Bool) (i : ℕ) → (i + 1 ≤ k → f (i + 1) ≡ g (i + 1)) → end ≡ end′
+      → at-next k f end i ≡ at-next k g end′ i
+  at-next-stays f g end end′ i same e = go (leb (i + 1) k) refl
     where
       go : (b : Bool) → leb (i + 1) k ≡ b → cond b (f (i + 1)) end ≡ cond b (g (i + 1)) end′
-      go true q = same (i + 1) (le-if-leb (i + 1) k q)
+      go true q = same (leb-true (i + 1) k q)
       go false q = e
+
+  pub at-next-same : (f g : ℕ → Bool) (end end′ : Bool) → ((j : ℕ) → j ≤ k → f j ≡ g j) → end ≡ end′ → (i : ℕ) → at-next k f end i ≡ at-next k g end′ i
+  at-next-same f g end end′ same e i = at-next-stays f g end end′ i (same (i + 1)) e
 
   -- What unfolds to the last position by the same steps, from the same end, is the same.
   pub same-going-down : (step : ℕ → Bool → Bool) (f g : ℕ → Bool) (end end′ : Bool) → end ≡ end′

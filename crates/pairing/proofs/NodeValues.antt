@@ -2,41 +2,44 @@
 use mathlib.Core.Path.{_≡_, refl, sym, _∙_, ap, fun-ext, subst}
 use mathlib.Core.Logic.{_⊎_, inl, inr}
 use mathlib.Core.Bool.{Bool, true, false, _&&_, _||_, cond}
-use mathlib.Core.List.{List, [], _∷_}
-use Prim.Native.Nat.{ℕ, zero, suc, _-_, _≤_, _<_, zero-le}
+use mathlib.Core.List.{List, []}
+use Prim.Native.Nat.{ℕ, zero, suc, _-_, _≤_, _<_, zero-le, suc-le-suc, _+_}
 use native.Mathlib.Nat.{eq-or-lt-of-le, le-of-suc-le-suc}
 use native.Mathlib.Numerals.{add-one}
 use native.Mathlib.Omega.{arith}
 use lib.Dec.{leb}
 use lib.ListN.{length, getD}
 use Rattle.clauses.specs.Lists.{numbers}
-use Rattle.meaning.specs.Problem.{Problem, Gate, Left, Node, node, constant, child, atom, both, either, next, until, release}
+use Rattle.meaning.specs.Problem.{Problem, Left, Node, node, constant, child, atom, both, either, next, until, release}
 use Rattle.meaning.specs.Check.{LeftProper, NodeProper, Proper}
-use Rattle.meaning.specs.Runs.{Position, with-gates, values}
+use Rattle.meaning.specs.Runs.{Position, values}
 use Rattle.meaning.specs.Formulas.{Formula, left-tree, tree-of, trees-after}
 use Rattle.meaning.specs.Bounded.{Shape, prefix, lasso, onward, visits, until-over, release-over, release-end, next-in, bounded-value}
+use Rattle.meaning.specs.Witnesses.{shape-of}
 use Rattle.pairing.specs.NodeLaws.{NodeLaws, left-value, at-next, op-value, Q-value, E-value}
 use Rattle.pairing.proofs.Trees.{tree, tree-unfolds}
 use Rattle.pairing.proofs.NextValues.{at-next-inside, at-next-last, at-next-same, same-going-down, until-to-last, release-to-last}
-use Rattle.pairing.proofs.Unrolled.{after-last, after-inside, until-unrolled, until-once-round, release-unrolled, release-once-round}
+use Rattle.pairing.proofs.Unrolled.{until-unrolled, until-once-round, release-unrolled, release-once-round}
+use Rattle.pairing.proofs.Loops.{after-last, after-inside}
+use Rattle.pairing.proofs.Gates.{with-gates-before}
 
 -- The loop starts at 0 to k.
 abbrev pub StartWithin : Shape → Problem → Type 0
 StartWithin prefix p = Unit
 StartWithin (lasso l) p = l ≤ p .bound
 
+pub start-within : (p : Problem) (b : ℕ) → b ≤ p .bound + 1 → StartWithin (shape-of b) p
+start-within p zero h = tt
+start-within p (suc l) h = omega arith
+
 -- Variable 0 is false at each position.
 abbrev pub ZeroFalse : (ℕ → List Bool) → Type 0
 ZeroFalse rows = (i : ℕ) → getD (rows i) 0 false ≡ false
 
 -- Gates are added behind the values, so the first stays.
-values-first : (gs : List Gate) (b : Bool) (bs : List Bool) → getD (with-gates gs (b ∷ bs)) 0 false ≡ b
-values-first [] b bs = refl
-values-first (g ∷ gs) b bs = values-first gs b _
-
 pub values-zero-false : (p : Problem) (path : ℕ → Position) → ZeroFalse (λ t. values p (path t))
 unfolding values
-values-zero-false p path t = values-first (p .gates) false _
+values-zero-false p path t = with-gates-before (p .gates) _ 0 (suc-le-suc zero-le)
 
 -- ════════ One op, on a shape ════════
 

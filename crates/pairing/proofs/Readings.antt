@@ -4,10 +4,10 @@ use mathlib.Core.Bool.{Bool, true, false}
 use Prim.Native.Nat.{ℕ, zero, suc, _+_, _*_, _/_, _≤_, _<_}
 use native.Mathlib.Nat.{not-suc-le-zero}
 use native.Mathlib.Omega.{arith}
+use borrow.Author.Tests.{le-leb}
 use lib.IntN.{ℤ, pos}
 use lib.Dec.{leb}
 use Rattle.clauses.specs.Clauses.{Assignment, literal-true}
-use Rattle.clauses.proofs.Satisfaction.{leb-if-le}
 use Rattle.meaning.specs.Problem.{Problem, W, Left, constant, child}
 use Rattle.meaning.specs.Runs.{odd, literal-value}
 use Rattle.meaning.specs.Cnf as Cnf
@@ -50,13 +50,13 @@ module _ (p : Problem) (a : Assignment) where
 
 module _ (p : Problem) (a : Assignment) where
   pub P-reads : (n i : ℕ) → i ≤ p .bound → Reads a (Cnf.P p n i) (reading p a .P n i)
-  P-reads n i h = rw (leb-if-le i (p .bound) h) (variable-reads a _ (omega arith))
+  P-reads n i h = rw (le-leb i (p .bound) h) (variable-reads a _ (omega arith))
 
   pub P-next-reads : (n i : ℕ) → Reads a (Cnf.P p n (i + 1)) (at-next (p .bound) (reading p a .P n) (reading p a .E n) i)
   P-next-reads n i = cond-reads (leb (i + 1) (p .bound)) (variable-reads a _ (omega arith)) (E-reads p a n)
 
   pub Q-reads : (n : ℕ) (end : ℤ) (i : ℕ) → i ≤ p .bound → Reads a (Cnf.Q p n end i) (reading p a .Q n i)
-  Q-reads n end i h = rw (leb-if-le i (p .bound) h) (variable-reads a _ (omega arith))
+  Q-reads n end i h = rw (le-leb i (p .bound) h) (variable-reads a _ (omega arith))
 
   pub Q-next-reads : (n : ℕ) {end : ℤ} {b : Bool} (i : ℕ) → Reads a end b
       → Reads a (Cnf.Q p n end (i + 1)) (at-next (p .bound) (reading p a .Q n) b i)

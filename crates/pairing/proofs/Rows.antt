@@ -1,38 +1,35 @@
 -- The rows of a model are those of its bytes, and the rows of a witness keep the circuit's laws. Assumes nothing.
-use mathlib.Core.Path.{_≡_, refl, sym, _∙_, ap}
+use mathlib.Core.Path.{_≡_, sym, _∙_, ap}
 use mathlib.Core.Bool.{Bool, true, false}
-use mathlib.Core.List.{List, [], _∷_, map}
+use mathlib.Core.List.{List, map}
 use Prim.Native.Nat.{ℕ, zero, suc, _+_, _<_, _≤_, zero-le}
-use native.Mathlib.Nat.{le-of-suc-le-suc, not-suc-le-zero}
 use native.Mathlib.Numerals.{add-one}
 use native.Mathlib.Omega.{arith}
 use lib.ListN.{length, getD}
 use lib.Seq.{ext-getD}
 use Rattle.clauses.specs.Lists.{numbers}
-use Rattle.meaning.specs.Problem.{Problem, W, latch-variable, gate-variable, latch, gate}
+use Rattle.meaning.specs.Problem.{Problem, W, latch-variable, gate-variable, latch, gate, Latch}
 use Rattle.meaning.specs.Check.{Proper}
 use Rattle.meaning.specs.Runs.{Position, literal-value, gate-value, meets-reset, values, next-values, StartsRight}
 use Rattle.meaning.specs.Witnesses.{witness-length, first-latches, inputs-at, position, rows, Closes}
-use Rattle.meaning.proofs.Numbers.{length-map-numbers, getD-map-numbers}
+use Rattle.meaning.proofs.Numbers.{length-map-numbers, getD-map-numbers, getD-map-within}
 use Rattle.pairing.specs.ModelLaws.{Reading, row}
 use Rattle.pairing.specs.Bytes.{bytes-of-reading}
 use Rattle.pairing.proofs.Runs.{position-first, position-inputs, position-next, length-inputs-at, length-latches}
-use Rattle.pairing.proofs.Gates.{values-length, values-zero, values-input, values-latch, values-gate, values-unique}
+use Rattle.pairing.proofs.Gates.{values-length, values-input, values-latch, values-gate, values-unique}
 use Rattle.pairing.proofs.Bytes.{bytes-length, bytes-latches, bytes-inputs}
 
 -- ════════ Next values ════════
 
--- The default of a place within a list does not matter.
-getD-map-within : {A B : Type 0} (f : A → B) (xs : List A) (i : ℕ) (d : A) (e : B) → i < length xs → getD (map f xs) i e ≡ f (getD xs i d)
-getD-map-within f [] i d e h = absurd (not-suc-le-zero h)
-getD-map-within f (x ∷ xs) zero d e h = refl
-getD-map-within f (x ∷ xs) (suc i) d e h = getD-map-within f xs i d e (le-of-suc-le-suc h)
+-- A latch's next value by a row is that of its next literal there.
+pub next-by-row : (p : Problem) (row : List Bool) (i : ℕ) → i < length (p .latches)
+    → getD (map (λ (c : Latch). literal-value row (c .next)) (p .latches)) i false ≡ literal-value row (latch p i .next)
+next-by-row p row i h = getD-map-within (λ (c : Latch). literal-value row (c .next)) (p .latches) i _ false h
 
--- A latch's next value is that of its next literal.
 pub next-value : (p : Problem) (x : Position) (i : ℕ) → i < length (p .latches)
     → getD (next-values p x) i false ≡ literal-value (values p x) (latch p i .next)
 unfolding next-values
-next-value p x i h = getD-map-within _ (p .latches) i _ false h
+next-value p x i h = next-by-row p (values p x) i h
 
 -- ════════ The rows of a model ════════
 
@@ -84,9 +81,6 @@ module _ (p : Problem) (bs : List ℕ) (right : length bs ≡ witness-length p) 
       let long : length (row p r t) ≡ W p + 1 = length-map-numbers (r .circuit t) 0 (W p + 1) in
       ext-getD false (row p r t) (rows p bs t) (long ∙ sym (length-rows t h))
       (λ v q. row-at p r t v (omega arith) ∙ same t v h (omega arith))
-
-  pub rows-false : (t : ℕ) → t ≤ p .bound → r .circuit t 0 ≡ false
-  rows-false t h = same t 0 h zero-le ∙ values-zero p _ (length-inputs t h) (length-latches p bs right t h)
 
   pub rows-inputs : (t i : ℕ) → t ≤ p .bound → i < p .inputs → r .circuit t (suc i) ≡ getD (inputs-at p bs t) i false
   rows-inputs t i h q =

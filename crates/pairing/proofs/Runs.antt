@@ -1,28 +1,16 @@
 -- The run that a witness shows: its inputs, first latches and next latches, and their lengths. Assumes nothing.
 use mathlib.Core.Path.{_≡_, refl, _∙_, ap}
-use mathlib.Core.Bool.{Bool, true}
+use mathlib.Core.Bool.{Bool}
 use mathlib.Core.List.{List, [], _∷_, map}
 use Prim.Native.Nat.{ℕ, zero, suc, _+_, _<_, _≤_}
-use native.Mathlib.Nat.{le-of-suc-le-suc, not-suc-le-zero, mul-le-mul-left, mul-suc, add-zero, zero-add}
+use native.Mathlib.Nat.{le-of-suc-le-suc, not-suc-le-zero, mul-le-mul-left, mul-suc, zero-add}
 use native.Mathlib.Omega.{arith}
 use lib.ListN.{length, getD, length-map, length-take, length-drop}
-use Rattle.clauses.specs.Lists.{numbers, all-of}
-use Rattle.clauses.proofs.Satisfaction.{all-of-at, all-of-if-at}
+use Rattle.clauses.specs.Lists.{numbers}
 use Rattle.meaning.specs.Problem.{Problem}
 use Rattle.meaning.specs.Runs.{Position, next-values, run-from}
 use Rattle.meaning.specs.Witnesses.{witness-length, first-latches, inputs-at, run, position}
-use Rattle.meaning.proofs.Numbers.{length-numbers, getD-numbers, getD-map-numbers-from}
-
--- ════════ Numbers in a row ════════
-
-module _ (f : ℕ → Bool) (n : ℕ) where
-  pub all-of-numbers : all-of f (numbers 0 n) ≡ true → (j : ℕ) → j < n → f j ≡ true
-  all-of-numbers e j h =
-      rw (getD-numbers 0 n j 0 h, zero-add) at (all-of-at f (numbers 0 n) j 0 e (omega (arith, length-numbers 0 n)))
-
-  pub all-of-numbers-if : ((j : ℕ) → j < n → f j ≡ true) → all-of f (numbers 0 n) ≡ true
-  all-of-numbers-if h = all-of-if-at f (numbers 0 n) 0 (λ j q.
-      let q′ : j < n = omega (arith, length-numbers 0 n) in rw (getD-numbers 0 n j 0 q′, zero-add) (h j q′))
+use Rattle.meaning.proofs.Numbers.{length-numbers, getD-map-numbers-from}
 
 -- ════════ Runs ════════
 

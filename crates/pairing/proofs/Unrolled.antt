@@ -1,17 +1,17 @@
 -- Once round a loop is enough: a walk of k + 1 positions is one to k and then one round. Assumes nothing.
 use mathlib.Core.Path.{_≡_, refl, sym, _∙_, ap, subst}
 use mathlib.Core.Logic.{_⊎_, inl, inr}
-use mathlib.Core.Bool.{Bool, true, false, not, _&&_, _||_, Bool·not-not, false≢true}
+use mathlib.Core.Bool.{Bool, true, false, not, _&&_, false≢true}
 use mathlib.Core.List.{List, [], _∷_, _++_, List·Memᴰ, List·Memᴰ·head, List·Memᴰ·tail, List·Memᴰ·not-nil, List·Memᴰ·cases-cons, Memᴰ·append-left}
 use Prim.Native.Nat.{ℕ, zero, suc, _+_, _-_, _≤_, _<_}
-use native.Mathlib.Nat.{zero-add, add-zero, suc-add, add-suc, eq-or-lt-of-le}
+use native.Mathlib.Nat.{zero-add, suc-add, eq-or-lt-of-le}
 use native.Mathlib.Decide.{decLe}
 use native.Mathlib.Omega.{arith}
-use lib.Dec.{eqb}
 use Rattle.clauses.specs.Lists.{numbers}
-use Rattle.clauses.proofs.Satisfaction.{one-true, second-true, eq-if-eqb, eqb-self, false-if-not-true}
+use Rattle.clauses.proofs.Satisfaction.{one-true, second-true}
 use Rattle.meaning.specs.Bounded.{after, onward, until-over, release-over}
-use Rattle.pairing.proofs.Loops.{release-dual}
+use Rattle.meaning.proofs.Numbers.{numbers-append, member-of-numbers, numbers-bounds}
+use Rattle.pairing.proofs.Loops.{release-dual, after-last, after-inside}
 
 -- ════════ Positions already passed add nothing ════════
 
@@ -47,41 +47,14 @@ module _ (f g : ℕ → Bool) where
 
 -- ════════ The positions of a walk ════════
 
-pub numbers-split : (i m n : ℕ) → numbers i (m + n) ≡ numbers i m ++ numbers (i + m) n
-numbers-split i zero n = rw (zero-add, add-zero)
-numbers-split i (suc m) n = rw (suc-add, numbers-split (suc i) m n, suc-add, add-suc)
-
-pub member-of-numbers : (i n j : ℕ) → i ≤ j → j < i + n → List·Memᴰ j (numbers i n)
-member-of-numbers i zero j h l = absurd (omega arith)
-member-of-numbers i (suc n) j h l = go (eq-or-lt-of-le h) (λ h′. member-of-numbers (suc i) n j h′ (omega arith))
-  where
-    go : (i ≡ j) ⊎ (i < j) → (i < j → List·Memᴰ j (numbers (suc i) n)) → List·Memᴰ j (i ∷ numbers (suc i) n)
-    go (inl e) later = List·Memᴰ·head (sym e)
-    go (inr h′) later = List·Memᴰ·tail (later h′)
-
-pub numbers-bounds : (i n : ℕ) {j : ℕ} → List·Memᴰ j (numbers i n) → (i ≤ j) × (j < i + n)
-numbers-bounds i zero m = absurd (List·Memᴰ·not-nil m)
-numbers-bounds i (suc n) {j} m = go (List·Memᴰ·cases-cons m) (numbers-bounds (suc i) n)
-  where
-    go : (j ≡ i) ⊎ List·Memᴰ j (numbers (suc i) n) → (List·Memᴰ j (numbers (suc i) n) → (suc i ≤ j) × (j < suc i + n))
-        → (i ≤ j) × (j < i + suc n)
-    go (inl e) later = omega arith
-    go (inr m′) later = let b = later m′ in omega arith
-
 module _ (l k : ℕ) where
-  pub after-last : after l k k ≡ l
-  after-last = rw eqb-self
-
-  pub after-inside : (i : ℕ) → i < k → after l k i ≡ suc i
-  after-inside i h = rw (false-if-not-true (eqb i k) (λ e. let q = eq-if-eqb i k e in omega arith))
-
   -- So many positions that reach no further than k.
   onward-straight : (n i : ℕ) → i + n ≤ suc k → onward l k n i ≡ numbers i n
   onward-straight zero i h = refl
   onward-straight (suc zero) i h = refl
   onward-straight (suc (suc n)) i h =
       let inside : i < k = omega arith in
-      rw (after-inside i inside, onward-straight (suc n) (suc i) (omega arith))
+      rw (after-inside l k i inside, onward-straight (suc n) (suc i) (omega arith))
 
   -- Those to k, and then the rest from l on.
   onward-round : (n m i : ℕ) → i + suc n ≡ suc k → onward l k (suc n + m) i ≡ numbers i (suc n) ++ onward l k m l
@@ -90,7 +63,7 @@ module _ (l k : ℕ) where
       rw (suc-add, zero-add, last, after-last)
   onward-round (suc n) m i h =
       let inside : i < k = omega arith in
-      rw (suc-add, after-inside i inside, onward-round n m (suc i) (omega arith))
+      rw (suc-add, after-inside l k i inside, onward-round n m (suc i) (omega arith))
 
   pub walk-on : (m i : ℕ) → i ≤ k → onward l k (suc k - i + m) i ≡ numbers i (suc k - i) ++ onward l k m l
   walk-on m i h =
@@ -108,7 +81,7 @@ module _ (l k : ℕ) where
     where
       go : (i ≡ k) ⊎ (i < k) → (l ≤ after l k i) × (after l k i ≤ k)
       go (inl e) = rw (e, after-last) (omega arith)
-      go (inr h″) = rw (after-inside i h″) (omega arith)
+      go (inr h″) = rw (after-inside l k i h″) (omega arith)
 
   -- A walk that begins in the loop stays there.
   onward-in-loop : l ≤ k → (n i : ℕ) → l ≤ i → i ≤ k → (j : ℕ) → List·Memᴰ j (onward l k n i) → (l ≤ j) × (j ≤ k)
@@ -144,7 +117,7 @@ module _ (f g : ℕ → Bool) (l k : ℕ) (s : l ≤ k) where
       round : to-last k l ≡ numbers l i ++ numbers (l + i) (suc k - l - i)
       round =
           let steps : i + (suc k - l - i) ≡ suc k - l = omega arith in
-          subst (λ (n : ℕ). numbers l n ≡ numbers l i ++ numbers (l + i) (suc k - l - i)) steps (numbers-split l i (suc k - l - i))
+          subst (λ (n : ℕ). numbers l n ≡ numbers l i ++ numbers (l + i) (suc k - l - i)) steps (numbers-append l i (suc k - l - i))
 
       passed : (j : ℕ) → List·Memᴰ j missing → List·Memᴰ j (to-last k i ++ numbers l i)
       passed j m =

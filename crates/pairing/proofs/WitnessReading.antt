@@ -4,15 +4,16 @@ use mathlib.Core.Bool.{Bool, true, false, false≢true}
 use mathlib.Core.List.{List}
 use Prim.Native.Nat.{ℕ, zero, suc, _+_, _-_, _≤_, _<_, zero-le}
 use native.Mathlib.Omega.{arith}
+use borrow.Author.Tests.{eqb-true}
 use lib.ListN.{length, getD}
 use lib.Seq.{ext-getD}
-use Rattle.clauses.proofs.Satisfaction.{eq-if-eqb, eqb-self}
+use Rattle.clauses.proofs.Satisfaction.{eqb-self}
 use Rattle.meaning.specs.Problem.{Problem, W, latch-variable, latch}
 use Rattle.meaning.specs.Check.{Proper}
 use Rattle.meaning.specs.Runs.{literal-value, next-values, StartsRight}
 use Rattle.meaning.specs.Formulas.{formula}
 use Rattle.meaning.specs.Bounded.{Shape, prefix, lasso, bounded-value}
-use Rattle.meaning.specs.Witnesses.{byte, shape-of, shape, first-latches, position, rows, Closes, Shows, Witness}
+use Rattle.meaning.specs.Witnesses.{byte, shape, first-latches, position, rows, Closes, Shows, Witness}
 use Rattle.meaning.proofs.Numbers.{getD-map-numbers}
 use Rattle.pairing.specs.NodeLaws.{NodeLaws}
 use Rattle.pairing.specs.ModelLaws.{Reading, ModelLaws, row}
@@ -20,9 +21,9 @@ use Rattle.pairing.specs.Layout.{Agree}
 use Rattle.pairing.specs.Bytes.{chosen-of, bytes-of-reading}
 use Rattle.pairing.proofs.Meaning.{lasso-value}
 use Rattle.pairing.proofs.Runs.{length-next-values, length-latches}
-use Rattle.pairing.proofs.Witnesses.{shape-fits, value-if-shows}
+use Rattle.pairing.proofs.Witnesses.{value-if-shows}
 use Rattle.pairing.proofs.Trees.{formula-is}
-use Rattle.pairing.proofs.NodeValues.{StartWithin, values-zero-false, P-of, Q-of, E-of, node-laws, node-laws-determine}
+use Rattle.pairing.proofs.NodeValues.{StartWithin, values-zero-false, P-of, Q-of, E-of, node-laws, node-laws-determine, start-within}
 use Rattle.pairing.proofs.SameNodes.{node-laws-same}
 use Rattle.pairing.proofs.Bytes.{bytes-length, bytes-start, bytes-bits, bytes-latches}
 use Rattle.pairing.proofs.Rows.{next-value, row-at, rows-of-model, row-of-rows, rows-latches, rows-gate-law, rows-step-law, rows-reset-law, rows-closing-law}
@@ -39,10 +40,6 @@ witness-reading p bs = record {
   E = E-of p (shape bs) (rows p bs);
 }
 
-start-within : (p : Problem) (b : ℕ) → b ≤ p .bound + 1 → StartWithin (shape-of b) p
-start-within p zero h = tt
-start-within p (suc l) h = omega arith
-
 tables-of-rows : {p : Problem} → Proper p → (bs : List ℕ) → byte bs 0 ≤ p .bound + 1
     → NodeLaws p (shape bs) (rows p bs) (P-of p (shape bs) (rows p bs)) (Q-of p (shape bs) (rows p bs)) (E-of p (shape bs) (rows p bs))
 tables-of-rows {p} proper bs start =
@@ -52,7 +49,7 @@ tables-of-rows {p} proper bs start =
 
 closes-if-chosen : (p : Problem) (bs : List ℕ) (s : Shape) (l : ℕ) → Shows p bs s → chosen-of s l ≡ true → Closes p bs l
 closes-if-chosen p bs prefix l shown c = absurd (false≢true c)
-closes-if-chosen p bs (lasso m) l shown c = rw (eq-if-eqb l m c) (shown .0)
+closes-if-chosen p bs (lasso m) l shown c = rw (eqb-true l m c) (shown .0)
 
 -- Of a reading that agrees with that of a witness.
 module _ (p : Problem) (proper : Proper p) (bs : List ℕ) (w : Witness p bs) (r : Reading) (same : Agree p r (witness-reading p bs))
@@ -72,7 +69,7 @@ module _ (p : Problem) (proper : Proper p) (bs : List ℕ) (w : Witness p bs) (r
   last-true =
       let some : 1 ≤ length (p .nodes) = proper .nodes-some in
       let value : bounded-value (shape bs) (p .bound) (rows p bs) (formula p) 0 ≡ true =
-      value-if-shows p bs (shape bs) (shape-fits (p .bound) (byte bs 0) (w .start-in-range)) (w .shows) in
+      value-if-shows p bs (shape bs) (start-within p (byte bs 0) (w .start-in-range)) (w .shows) in
       same .P (length (p .nodes) - 1) 0 (omega arith) zero-le ∙ (rw (formula-is p) at value)
 
   pub witness-keeps-laws : ModelLaws p r

@@ -6,22 +6,26 @@ use mathlib.Core.List.{List, [], _∷_, _++_, map}
 use Prim.Native.Nat.{ℕ, zero, suc, _+_, _<_, _≤_, zero-le, suc-le-suc}
 use native.Mathlib.Nat.{le-of-suc-le-suc, not-suc-le-zero, add-zero, zero-add}
 use native.Mathlib.Omega.{arith}
+use borrow.Author.Tests.{leb-true, le-leb, eqb-true}
 use lib.Dec.{leb, eqb}
 use lib.ListN.{length, getD}
 use lib.Seq.{ext-getD}
 use Rattle.clauses.specs.Lists.{numbers, numbered, all-of}
 use Rattle.clauses.specs.Answers.{Check, check, granted}
-use Rattle.clauses.proofs.Satisfaction.{both-true, first-true, second-true, le-if-leb, leb-if-le, eq-if-eqb, eqb-self, all-of-append, all-of-first, all-of-second, all-of-numbered, all-of-map}
+use Rattle.clauses.proofs.Satisfaction.{both-true, first-true, second-true, eqb-self, all-of-append, all-of-first, all-of-second, all-of-numbered, all-of-map}
 use Rattle.clauses.proofs.Answers.{passing, refusing, first-failing-passed, all-pass-if-granted, after-if-granted}
 use Rattle.meaning.specs.Answers.{bad-witness, against-reset, open-loop}
 use Rattle.meaning.specs.Problem.{Problem, latch}
 use Rattle.meaning.specs.Runs.{next-values, meets-reset, StartsRight}
 use Rattle.meaning.specs.Formulas.{formula}
 use Rattle.meaning.specs.Bounded.{Shape, prefix, lasso, bounded-value}
-use Rattle.meaning.specs.Witnesses.{witness-length, byte, shape-of, shape, first-latches, position, rows, Closes, Shows, Witness, byte-limit, byte-checks, reset-checks, loop-checks, formula-check, judge-formula, judge-run, judge-bytes}
+use Rattle.meaning.specs.Witnesses.{witness-length, byte, shape, first-latches, position, rows, Closes, Shows, Witness, byte-limit, byte-checks, reset-checks, loop-checks, formula-check, judge-formula, judge-run, judge-bytes}
+use Rattle.meaning.proofs.Numbers.{all-of-numbers, all-of-numbers-if}
 use Rattle.pairing.proofs.Loops.{shifted}
 use Rattle.pairing.proofs.Meaning.{lasso-value}
-use Rattle.pairing.proofs.Runs.{all-of-numbers, all-of-numbers-if, length-next-values, length-latches}
+use Rattle.pairing.proofs.Runs.{length-next-values, length-latches}
+use Rattle.pairing.proofs.NodeValues.{StartWithin, start-within}
+use Rattle.pairing.proofs.Forms.{beq-is}
 
 -- ════════ The order of the judge's checks ════════
 
@@ -93,11 +97,11 @@ module _ (p : Problem) (bs : List ℕ) where
   byte-check i b = check (leb b (byte-limit p i)) (bad-witness i)
 
   length-if-passes : all-of passing (byte-checks p bs) ≡ true → length bs ≡ witness-length p
-  length-if-passes e = eq-if-eqb (length bs) (witness-length p) (first-true _ _ e)
+  length-if-passes e = eqb-true (length bs) (witness-length p) (first-true _ _ e)
 
   bytes-if-pass : all-of passing (byte-checks p bs) ≡ true → (i : ℕ) → i < length bs → byte bs i ≤ byte-limit p i
   bytes-if-pass e i h =
-      le-if-leb (byte bs i) (byte-limit p i)
+      leb-true (byte bs i) (byte-limit p i)
       (rw zero-add at (all-of-numbered-at passing byte-check 0 bs i (second-true (eqb (length bs) (witness-length p)) _ e) h))
 
   pass-if-bytes : length bs ≡ witness-length p → ((i : ℕ) → i < length bs → byte bs i ≤ byte-limit p i)
@@ -105,7 +109,7 @@ module _ (p : Problem) (bs : List ℕ) where
   pass-if-bytes e h =
       let same-length : eqb (length bs) (witness-length p) ≡ true = rw e (eqb-self (witness-length p)) in
       both-true same-length
-      (all-of-numbered-if-at passing byte-check 0 bs (λ i q. rw zero-add (leb-if-le (byte bs i) (byte-limit p i) (h i q))))
+      (all-of-numbered-if-at passing byte-check 0 bs (λ i q. rw zero-add (le-leb (byte bs i) (byte-limit p i) (h i q))))
 
 -- ════════ The resets ════════
 
@@ -125,25 +129,6 @@ module _ (p : Problem) (bs : List ℕ) where
 
 -- ════════ The loop and the formula ════════
 
-eq-if-beq : (a b : Bool) → Bool·beq a b ≡ true → a ≡ b
-eq-if-beq true true e = refl
-eq-if-beq true false e = sym e
-eq-if-beq false true e = e
-eq-if-beq false false e = refl
-
-beq-self : (a : Bool) → Bool·beq a a ≡ true
-beq-self true = refl
-beq-self false = refl
-
--- "A lasso with start l, 0 to k"
-abbrev pub Fits : ℕ → Shape → Type 0
-Fits k prefix = Unit
-Fits k (lasso l) = l ≤ k
-
-pub shape-fits : (k b : ℕ) → b ≤ k + 1 → Fits k (shape-of b)
-shape-fits k zero h = tt
-shape-fits k (suc l) h = omega arith
-
 module _ (p : Problem) (bs : List ℕ) where
   abbrev loop-test : ℕ → ℕ → Bool
   loop-test l i = Bool·beq (getD (next-values p (position p bs (p .bound))) i false) (getD (position p bs l .latches) i false)
@@ -155,16 +140,16 @@ module _ (p : Problem) (bs : List ℕ) where
   closes-if-passes l right fits e =
       ext-getD false (next-values p (position p bs (p .bound))) (position p bs l .latches)
       (length-next-values p (position p bs (p .bound)) ∙ sym (length-latches p bs right l fits))
-      (λ i h. eq-if-beq _ _
+      (λ i h. beq-is _ _ .0
       (all-of-numbers (loop-test l) (length (p .latches)) (sym (all-of-map passing (loop-check l) (numbers 0 (length (p .latches)))) ∙ e)
       i (rw (length-next-values p (position p bs (p .bound))) at h)))
 
   passes-if-closes : (l : ℕ) → Closes p bs l → all-of passing (loop-checks p bs (lasso l)) ≡ true
   passes-if-closes l e =
       all-of-map passing (loop-check l) (numbers 0 (length (p .latches)))
-      ∙ all-of-numbers-if (loop-test l) (length (p .latches)) (λ i h. rw e (beq-self (getD (position p bs l .latches) i false)))
+      ∙ all-of-numbers-if (loop-test l) (length (p .latches)) (λ i h. rw e (beq-is _ (getD (position p bs l .latches) i false) .1 refl))
 
-  shows-if-passes : (s : Shape) → length bs ≡ witness-length p → Fits (p .bound) s → all-of passing (loop-checks p bs s) ≡ true
+  shows-if-passes : (s : Shape) → length bs ≡ witness-length p → StartWithin s p → all-of passing (loop-checks p bs s) ≡ true
       → bounded-value s (p .bound) (rows p bs) (formula p) 0 ≡ true → Shows p bs s
   shows-if-passes prefix right fits loop e = e
   shows-if-passes (lasso l) right fits loop e =
@@ -174,7 +159,7 @@ module _ (p : Problem) (bs : List ℕ) where
   loop-if-shows prefix h = refl
   loop-if-shows (lasso l) h = passes-if-closes l (h .0)
 
-  pub value-if-shows : (s : Shape) → Fits (p .bound) s → Shows p bs s → bounded-value s (p .bound) (rows p bs) (formula p) 0 ≡ true
+  pub value-if-shows : (s : Shape) → StartWithin s p → Shows p bs s → bounded-value s (p .bound) (rows p bs) (formula p) 0 ≡ true
   value-if-shows prefix fits h = h
   value-if-shows (lasso l) fits h = lasso-value l (p .bound) fits (rows p bs) (formula p) 0 .1 (h .1)
 
@@ -191,7 +176,7 @@ module _ (p : Problem) (bs : List ℕ) where
         start-in-range = start;
         bits-in-range = bits limits;
         starts-right = starts-if-passes p bs (q .resets-pass);
-        shows = shows-if-passes p bs (shape bs) right (shape-fits (p .bound) (byte bs 0) start) (q .loop-passes) (q .formula-passes);
+        shows = shows-if-passes p bs (shape bs) right (start-within p (byte bs 0) start) (q .loop-passes) (q .formula-passes);
       }
     where
       bits : ((i : ℕ) → i < length bs → byte bs i ≤ byte-limit p i) → (i : ℕ) → 1 ≤ i → i < length bs → byte bs i ≤ 1
@@ -203,7 +188,7 @@ module _ (p : Problem) (bs : List ℕ) where
     bytes-pass = pass-if-bytes p bs (w .length-right) limits;
     resets-pass = passes-if-starts p bs (w .starts-right);
     loop-passes = loop-if-shows p bs (shape bs) (w .shows);
-    formula-passes = value-if-shows p bs (shape bs) (shape-fits (p .bound) (byte bs 0) (w .start-in-range)) (w .shows);
+    formula-passes = value-if-shows p bs (shape bs) (start-within p (byte bs 0) (w .start-in-range)) (w .shows);
   }
     where
       limits : (i : ℕ) → i < length bs → byte bs i ≤ byte-limit p i

@@ -1,5 +1,5 @@
 -- Laws of what the parts of the check answer, one after another and in a loop over numbers. Assumes nothing.
-use mathlib.Core.Path.{_≡_, refl, sym, _∙_, ap}
+use mathlib.Core.Path.{_≡_, refl, sym, _∙_}
 use mathlib.Core.Bool.{Bool, true, false}
 use mathlib.Core.List.{List, [], _∷_, _++_}
 use Prim.Native.Nat.{ℕ, suc, _+_, _-_, _≤_, _<_}
@@ -9,7 +9,7 @@ use denote.Enum.Declared.{tagOf}
 use Rattle.clauses.specs.Lists.{numbers, each, all-of}
 use Rattle.clauses.specs.Answers.{Answer, Check, check, first-failing, granted}
 use Rattle.clauses.proofs.Satisfaction.{false-if-not-true}
-use Rattle.clauses.proofs.Answers.{passing, refusing, first-failing-append, first-failing-passed, all-pass-if-granted}
+use Rattle.clauses.proofs.Answers.{passing, refusing, first-failing-append, first-failing-passed, all-pass-if-granted, number-of}
 use Rattle.meaning.proofs.Check.{first-failing-refused}
 use Rattle.problem.specs.declared.Sizes.{Sizes}
 use Rattle.problem.specs.declared.Checked.{Checked}
@@ -57,7 +57,7 @@ module _ (xs ys : List Check) {ws : List ℕ} where
         a .answered
         ∙ first-failing-refused xs (granted 0) (first-failing ys (granted 0))
         (false-if-not-true (all-of passing xs)
-        (λ pass. refused (ap (λ (x : Answer). x .number) (a .answered ∙ first-failing-passed xs (granted 0) pass))))
+        (λ pass. refused (number-of (a .answered ∙ first-failing-passed xs (granted 0) pass))))
         ∙ sym (first-failing-append xs ys (granted 0));
     sized = a .sized;
   }

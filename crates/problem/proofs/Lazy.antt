@@ -4,6 +4,7 @@ use mathlib.Core.List.{List, [], _∷_}
 use Prim.Native.Nat.{ℕ}
 use native.Mathlib.Omega.{arith}
 use Rattle.clauses.specs.Answers.{Answer}
+use Rattle.clauses.proofs.Answers.{number-of, place-of}
 use Rattle.meaning.specs.Limits.{inputs-limit, latches-limit, gates-limit, nodes-limit, bound-limit}
 use Rattle.meaning.specs.Check.{known-version, part-checks, parts-checked, problem-checked, check-problem}
 use Rattle.meaning.specs.Cases.{T-words, H}
@@ -43,11 +44,11 @@ module _ (x : Input) (r : Checked) (right : answer-of (x .right) ≡ laid-down x
 
   pub other-number : ¬ (answer-of r .number ≡ answer-of (x .right) .number) → Breaks x r
   unfolding laid-down
-  other-number h m = h (ap (λ (a : Answer). a .number) (m .answered ∙ sym right))
+  other-number h m = h (number-of (m .answered ∙ sym right))
 
   pub other-place : ¬ (answer-of r .place ≡ answer-of (x .right) .place) → Breaks x r
   unfolding laid-down
-  other-place h m = h (ap (λ (a : Answer). a .place) (m .answered ∙ sym right))
+  other-place h m = h (place-of (m .answered ∙ sym right))
 
 -- Words under the known version, and their sizes or their refusal.
 abbrev pub good : List ℕ → Sizes → Input

@@ -6,6 +6,7 @@ use Prim.Native.Nat.{ℕ}
 use native.Mathlib.Omega.{arith}
 use lib.ListN.{getD}
 use Rattle.clauses.specs.Answers.{Answer}
+use Rattle.clauses.proofs.Answers.{number-of}
 use Rattle.meaning.specs.Problem as Problem
 use Rattle.problem.specs.declared.Refusal.{Refusal}
 use Rattle.problem.specs.declared.Refusal.the-variants.{BadVersion, BadLength, OutsideLimits, BadReset, BadLiteral, BadNode}
@@ -51,8 +52,8 @@ refusal-not-yes (BadNode i) e = omega arith
 -- Two outcomes with one answer: both the sizes of the words, or one refusal.
 same-outcome : (ws : List ℕ) (r r′ : Checked) → Sized ws r → Sized ws r′ → answer-of r ≡ answer-of r′ → r ≡ r′
 same-outcome ws (Good s) (Good s′) z z′ e = ap Good (z ∙ sym z′)
-same-outcome ws (Good s) (Refused f) z z′ e = absurd (refusal-not-yes f (ap (λ (a : Answer). a .number) (sym e)))
-same-outcome ws (Refused f) (Good s) z z′ e = absurd (refusal-not-yes f (ap (λ (a : Answer). a .number) e))
+same-outcome ws (Good s) (Refused f) z z′ e = absurd (refusal-not-yes f (number-of (sym e)))
+same-outcome ws (Refused f) (Good s) z z′ e = absurd (refusal-not-yes f (number-of e))
 same-outcome ws (Refused f) (Refused f′) z z′ e = ap Refused (refusal-unique f f′ e)
 
 pub checked-unique : (version : ℕ) (ws : List ℕ) (r r′ : Checked) → CheckedAs version ws r → CheckedAs version ws r′ → r ≡ r′

@@ -3,21 +3,24 @@ use mathlib.Core.Path.{_≡_, refl, sym, _∙_}
 use mathlib.Core.Bool.{true}
 use mathlib.Core.List.{List, _++_}
 use Prim.Native.Nat.{ℕ, _<_}
+use borrow.Author.Tests.{leb-true}
 use lib.Dec.{leb, lit<}
 use lib.ListN.{getD}
 use Rattle.clauses.specs.Lists.{numbers, each, all-of}
-use Rattle.clauses.specs.Answers.{Check, check, granted}
-use Rattle.clauses.proofs.Satisfaction.{both-true, second-true, le-if-leb, all-of-append}
-use Rattle.clauses.proofs.Answers.{refusing, all-pass-if-granted}
+use Rattle.clauses.specs.Answers.{Check, check, granted, Answer}
+use Rattle.clauses.proofs.Satisfaction.{both-true, second-true, all-of-append}
+use Rattle.clauses.proofs.Answers.{refusing, all-pass-if-granted, number-of}
 use Rattle.meaning.specs.Limits.{nodes-limit}
 use Rattle.meaning.specs.Problem.{header}
-use Rattle.meaning.specs.Check.{opening-checks, latch-checks, gate-checks, node-checks, part-checks, check-problem}
+use Rattle.meaning.specs.Check.{opening-checks, latch-checks, gate-checks, node-checks, part-checks, check-problem, problem-checked}
 use Rattle.meaning.proofs.Numbers.{all-of-each}
-use Rattle.meaning.proofs.Check.{passes-at, all-checks, checked-by-all}
+use Rattle.meaning.proofs.Check.{passes-at, all-checks, checked-by-all, not-well-formed, checked-if-well-formed}
+use Rattle.problem.specs.declared.Refusal.{Refusal}
 use Rattle.problem.specs.declared.Sizes.{Sizes}
 use Rattle.problem.specs.declared.Checked.{Checked}
 use Rattle.problem.specs.declared.Checked.the-variants.{Good}
-use Rattle.problem.specs.Promise.{AnsweredBy, CheckedAs, Opened}
+use Rattle.problem.specs.Promise.{AnsweredBy, CheckedAs, Opened, refusal-answer}
+use Rattle.problem.proofs.Unique.{refusal-not-yes}
 use Rattle.problem.proofs.Answered.{Granted, Refuses, refused-first, granted-first}
 
 -- ════════ The opening ════════
@@ -27,10 +30,10 @@ pub opened-if-good : (version : ℕ) {ws : List ℕ} {s : Sizes} → AnsweredBy 
 opened-if-good version {ws} {s} a = record {
   sizes-are = a .sized;
   within = record {
-    inputs-within = rw (a .sized) (le-if-leb _ _ (opening 2 (lit< tt)));
-    latches-within = rw (a .sized) (le-if-leb _ _ (opening 3 (lit< tt)));
-    gates-within = rw (a .sized) (le-if-leb _ _ (opening 4 (lit< tt)));
-    nodes-within = rw (a .sized) (le-if-leb _ _ (second-true (leb 1 (header ws .nodes)) (leb (header ws .nodes) nodes-limit) (opening 5 (lit< tt))));
+    inputs-within = rw (a .sized) (leb-true _ _ (opening 2 (lit< tt)));
+    latches-within = rw (a .sized) (leb-true _ _ (opening 3 (lit< tt)));
+    gates-within = rw (a .sized) (leb-true _ _ (opening 4 (lit< tt)));
+    nodes-within = rw (a .sized) (leb-true _ _ (second-true (leb 1 (header ws .nodes)) (leb (header ws .nodes) nodes-limit) (opening 5 (lit< tt))));
   };
 }
   where
@@ -98,3 +101,14 @@ module _ {version : ℕ} {ws : List ℕ} where
           by-parts
           (granted-first (latches-checks ws s ++ gates-checks ws s) (nodes-checks ws s)
           (rw all-of-append (both-true (latches-refuse ws s) (gates-refuse ws s))) good (after-latches ws s good-l by-l g) n)
+
+-- ════════ What comes after the check ════════
+
+-- A refusal is the answer, whatever would come after the check.
+pub refused-whatever : (version : ℕ) (ws : List ℕ) (f : Refusal) (after : Answer) → refusal-answer f ≡ check-problem version ws
+    → refusal-answer f ≡ problem-checked version ws after
+unfolding check-problem
+refused-whatever version ws f after e =
+    e
+    ∙ not-well-formed version ws (granted 0) after
+    (λ w. refusal-not-yes f (number-of (e ∙ checked-if-well-formed version ws (granted 0) w)))

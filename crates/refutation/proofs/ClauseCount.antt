@@ -15,6 +15,7 @@ use Rattle.clauses.specs.Limits.{variables-limit}
 use Rattle.clauses.specs.Answers.{Answer, check, first-failing, granted, bad-cnf}
 use Rattle.clauses.specs.Clauses.{Clause, variable-of}
 use Rattle.clauses.specs.CnfWords.{clauses-of, in-front, is-0, ended-after, ended, cnf-checks}
+use Rattle.clauses.proofs.ReadBack.{some-clause}
 use Rattle.refutation.proofs.Scan.{Reader, answer-from}
 
 pub record Tally : Type 0 where
@@ -57,15 +58,6 @@ ended-next o w (v ∷ vs) = refl
 front-length : (w : ℤ) (cs : List Clause) → 0 < length cs → length (in-front w cs) ≡ length cs
 front-length w [] h = absurd (omega arith)
 front-length w (c ∷ cs) h = refl
-
-front-some : (w : ℤ) (cs : List Clause) → 0 < length (in-front w cs)
-front-some w [] = omega arith
-front-some w (c ∷ cs) = omega arith
-
-some-clause : (w : ℤ) (ws : List ℤ) → 0 < length (clauses-of (w ∷ ws))
-some-clause (pos zero) ws = omega arith
-some-clause (pos (suc n)) ws = front-some (pos (suc n)) (clauses-of ws)
-some-clause (negsuc n) ws = front-some (negsuc n) (clauses-of ws)
 
 -- One word more: where the words are not cut short, its clause is counted at its 0.
 pub clauses-next : (w : ℤ) (ws : List ℤ) → ended-after w ws ≡ true → length (clauses-of (w ∷ ws)) ≡ cond (is-0 w) (suc (length (clauses-of ws))) (length (clauses-of ws))

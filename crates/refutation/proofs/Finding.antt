@@ -11,21 +11,12 @@ use lib.Seq.{take-all, split-at}
 use mir.Syntax.{w32}
 use mir.Val.{SFits, toZ, ofZ}
 use mir.Facts.{toZ-ofZ}
-use Rattle.clauses.proofs.Satisfaction.{false-if-not-true, all-of-append, same-self, eq-if-same}
-use Rattle.clauses.specs.Lists.{all-of, those}
+use Rattle.clauses.proofs.Satisfaction.{false-if-not-true, all-of-append, same-self, eq-if-same, those-append, variable-of-negated}
+use Rattle.clauses.specs.Lists.{all-of}
 use Rattle.clauses.specs.Clauses.{negated, variable-of, same, among}
 use Rattle.clauses.specs.Refutations.{Outcome, conflict, unit, neither, not-false, outcome-of, outcome}
 use Rattle.refutation.specs.Work.{mark-of, cell, Values}
-use Rattle.refutation.proofs.Marks.{At, literal-at, within-at, within-at-least, within-negated, variable-negated, take-more}
-
-module _ {A : Type 0} (f : A → Bool) where
-  those-append : (xs ys : List A) → those f (xs ++ ys) ≡ those f xs ++ those f ys
-  those-append [] ys = refl
-  those-append (x ∷ xs) ys = rw (those-append xs ys) (go (f x))
-    where
-      go : (b : Bool) → cond b (x ∷ (those f xs ++ those f ys)) (those f xs ++ those f ys) ≡ cond b (x ∷ those f xs) (those f xs) ++ those f ys
-      go true = refl
-      go false = refl
+use Rattle.refutation.proofs.Marks.{At, literal-at, within-at, within-at-least, within-negated, take-more}
 
 -- A list with a first literal gives that literal, or neither; never the conflict.
 pub is-unit : (b : Bool) (u x : ℤ) → cond b (unit u) neither ≡ unit x → (b ≡ true) × (u ≡ x)
@@ -93,7 +84,7 @@ module _ {variables stamp : ℕ} {clause : List ℤ} {area : List ℕ} {i bits :
   w = literal-at clause i
 
   false-said : (trues : List ℤ) → Values variables stamp trues area → eqb (cell area w) (mark-of stamp (negated w)) ≡ among (negated w) trues
-  false-said trues vs = rw (variable-negated w) at (vs .said (negated w) (within-negated variables w (within-at t)))
+  false-said trues vs = rw (variable-of-negated w) at (vs .said (negated w) (within-negated variables w (within-at t)))
 
   true-said : (trues : List ℤ) → Values variables stamp trues area → eqb (cell area w) (mark-of stamp w) ≡ among w trues
   true-said trues vs = vs .said w (within-at t)

@@ -1,5 +1,5 @@
 -- Each outcome of the judge meets its promise. Assumes nothing.
-use mathlib.Core.Path.{_≡_, refl, sym, _∙_, ap}
+use mathlib.Core.Path.{_≡_, refl, sym, _∙_}
 use mathlib.Core.Bool.{Bool, true, false, cond}
 use mathlib.Core.List.{List, [], _∷_, _++_}
 use Prim.Native.Nat.{ℕ, suc, _+_, _<_, _≤_}
@@ -9,7 +9,7 @@ use borrow.Author.Tests.{le-leb, lt-leb}
 use lib.IntN.{ℤ}
 use lib.ListN.{length, replicate}
 use Rattle.clauses.proofs.Satisfaction.{first-true, second-true, both-true, all-of-append}
-use Rattle.clauses.proofs.Answers.{first-failing-passed}
+use Rattle.clauses.proofs.Answers.{first-failing-passed, number-of}
 use Rattle.clauses.specs.Lists.{all-of, written}
 use Rattle.clauses.specs.Answers.{Answer, Check, first-failing, granted, bad-cnf, bad-refutation}
 use Rattle.clauses.specs.Clauses.{Clause}
@@ -66,7 +66,7 @@ module _ (variables : ℕ) (cnf ws : List ℤ) (numbers clauses : List ℕ) wher
   unfolding judge-cnf area-after
   refused-16 e =
       record {
-        answered = refused-anyway (cnf-checks variables cnf) _ _ e (λ f. let z : 16 ≡ 0 = ap (λ (x : Answer). x .number) f in omega arith);
+        answered = refused-anyway (cnf-checks variables cnf) _ _ e (λ f. let z : 16 ≡ 0 = number-of f in omega arith);
         numbers-left = refl;
         clauses-left = refl;
       }
@@ -84,7 +84,7 @@ module _ (variables : ℕ) (cnf ws : List ℤ) (numbers clauses : List ℕ) wher
     refused-11 e =
         record {
           answered =
-              refused-anyway (refutation-checks variables c ws) _ _ e (λ f. let z : 11 ≡ 0 = ap (λ (x : Answer). x .number) f in omega arith)
+              refused-anyway (refutation-checks variables c ws) _ _ e (λ f. let z : 11 ≡ 0 = number-of f in omega arith)
               ∙ sym past-16;
           numbers-left = refl;
           clauses-left = refl;

@@ -1,15 +1,15 @@
 -- The clauses that a step's hints can name, by what is written down of them, and what a hint gives. Assumes nothing.
-use mathlib.Core.Path.{_≡_, refl, sym, _∙_}
-use mathlib.Core.Bool.{Bool, true, false, not, _&&_, cond}
+use mathlib.Core.Path.{_≡_, sym, _∙_}
+use mathlib.Core.Bool.{Bool, true, false, not, _&&_}
 use mathlib.Core.List.{List, [], _∷_}
 use Prim.Native.Nat.{ℕ, _+_, _-_, _<_, _≤_}
 use native.Mathlib.Decide.{decLe}
 use native.Mathlib.Omega.{arith}
-use borrow.Author.Tests.{le-leb}
+use borrow.Author.Tests.{le-leb, not-true}
 use lib.IntN.{ℤ}
 use lib.ListN.{length, getD, take, length-append, length-map}
 use lib.Seq.{length-take-le}
-use Rattle.clauses.proofs.Satisfaction.{first-true, second-true, not-true, all-of-at, those-pass}
+use Rattle.clauses.proofs.Satisfaction.{first-true, second-true, all-of-at, those-pass, all-of-member, all-of-if-member, of-those}
 use Rattle.clauses.specs.Lists.{all-of, those}
 use Rattle.clauses.specs.Clauses.{Clause, negated, literal-within, same, among}
 use Rattle.clauses.specs.CnfWords.{clauses-of}
@@ -27,12 +27,7 @@ pub record Unset (variables : ℕ) (trues : List ℤ) (u : ℤ) : Type 0 where
   pub not-false : among (negated u) trues ≡ false
 
 those-kept : (f g : ℤ → Bool) (c : Clause) → all-of f c ≡ true → all-of f (those g c) ≡ true
-those-kept f g [] e = refl
-those-kept f g (w ∷ c) e = go (g w) (those-kept f g c (second-true (f w) (all-of f c) e))
-  where
-    go : (b : Bool) → all-of f (those g c) ≡ true → all-of f (cond b (w ∷ those g c) (those g c)) ≡ true
-    go true rest = rw (first-true (f w) (all-of f c) e, rest)
-    go false rest = rest
+those-kept f g c e = all-of-if-member f (those g c) (λ w m. all-of-member f (of-those g c m) e)
 
 pub unit-unset : (variables : ℕ) (trues : List ℤ) (c : Clause) {u : ℤ} → LiteralsWithin variables c → outcome trues c ≡ unit u → Unset variables trues u
 unit-unset variables trues c {u} inside e =

@@ -18,4 +18,4 @@ pub mod Refuted
 pub mod Lazy
 pub mod LazySteps
 pub mod LazyAreas
-pub mod OneAnswer
+pub mod CanBeMet

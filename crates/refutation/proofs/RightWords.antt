@@ -1,5 +1,5 @@
 -- Words that were counted: what 16 and 11 have passed, and how many clauses and steps there are. Assumes nothing.
-use mathlib.Core.Path.{_≡_, refl, sym, ap}
+use mathlib.Core.Path.{_≡_, refl, sym, _∙_}
 use mathlib.Core.Bool.{Bool, true}
 use mathlib.Core.List.{List, [], _∷_, _++_}
 use Prim.Native.Nat.{ℕ, zero, suc, _≤_}
@@ -8,11 +8,11 @@ use borrow.Author.Tests.{le-leb}
 use lib.IntN.{ℤ, pos, negsuc}
 use lib.Dec.{leb}
 use lib.ListN.{length}
-use Rattle.clauses.proofs.Satisfaction.{first-true, second-true, both-true, all-of-first, all-of-second}
-use Rattle.clauses.proofs.Answers.{passing, refusing, all-pass-if-granted, after-if-granted, cnf-checks-refusing, refutation-checks-refusing}
+use Rattle.clauses.proofs.Satisfaction.{first-true, second-true, all-of-first, all-of-second}
+use Rattle.clauses.proofs.Answers.{passing, refusing, all-pass-if-granted, after-if-granted, cnf-checks-refusing, refutation-checks-refusing, numbered-passing, place-of}
 use Rattle.clauses.specs.Lists.{all-of, numbered}
 use Rattle.clauses.specs.Limits.{variables-limit}
-use Rattle.clauses.specs.Answers.{Answer, Check, check, first-failing, granted, bad-cnf}
+use Rattle.clauses.specs.Answers.{Check, check, first-failing, granted, bad-cnf}
 use Rattle.clauses.specs.Clauses.{Clause, Within, variable-of}
 use Rattle.clauses.specs.CnfWords.{clauses-of, in-front, ended, cnf-checks}
 use Rattle.clauses.specs.Refutations.{paired, steps-of, refutation-checks}
@@ -23,7 +23,7 @@ use Rattle.refutation.specs.Work.{CnfRight, StepsRight}
 counted : (cs : List Check) (m : ℕ) {n : ℕ} → all-of refusing cs ≡ true → granted n ≡ first-failing cs (granted m)
     → (all-of passing cs ≡ true) × (n ≡ m)
 counted cs m r e =
-    (all-pass-if-granted cs (granted m) r (sym e), sym (ap (λ (x : Answer). x .place) (after-if-granted cs (granted m) r (sym e))))
+    (all-pass-if-granted cs (granted m) r (sym e), sym (place-of (after-if-granted cs (granted m) r (sym e))))
 
 pub cnf-counted : (variables : ℕ) (cnf : List ℤ) {n : ℕ} → granted n ≡ first-failing (cnf-checks variables cnf) (granted (length (clauses-of cnf)))
     → CnfRight variables cnf × (n ≡ length (clauses-of cnf))
@@ -61,10 +61,6 @@ module _ (variables : ℕ) where
   abbrev small : ℤ → Bool
   small w = leb (variable-of w) variables
 
-  numbered-small : (i : ℕ) (ws : List ℤ) → all-of passing (numbered i ws (λ i w. check (small w) (bad-cnf i))) ≡ true → all-of small ws ≡ true
-  numbered-small i [] e = refl
-  numbered-small i (w ∷ ws) e = both-true (first-true (small w) _ e) (numbered-small (suc i) ws (second-true (small w) _ e))
-
   within-in-front : (w : ℤ) (cs : List Clause) → 1 ≤ variable-of w → small w ≡ true → Within variables cs → Within variables (in-front w cs)
   within-in-front w [] some e rest = rw (le-leb 1 (variable-of w) some, e)
   within-in-front w (c ∷ cs) some e rest = rw (le-leb 1 (variable-of w) some, e) rest
@@ -83,4 +79,4 @@ module _ (variables : ℕ) where
       let words = numbered 0 cnf (λ i w. check (small w) (bad-cnf i)) in
       let last = check (ended cnf) (bad-cnf (length cnf)) ∷ [] in
       let both = second-true (leb variables variables-limit) (all-of passing (words ++ last)) e in
-      (small-within cnf (numbered-small 0 cnf (all-of-first passing words last both)), first-true (ended cnf) true (all-of-second passing words last both))
+      (small-within cnf (sym (numbered-passing small bad-cnf 0 cnf) ∙ all-of-first passing words last both), first-true (ended cnf) true (all-of-second passing words last both))

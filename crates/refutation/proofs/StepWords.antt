@@ -1,6 +1,6 @@
 -- The words of a refutation from the place where a step begins, where 11 passes them. Assumes nothing.
 use mathlib.Core.Path.{_≡_, refl, sym, _∙_, ap}
-use mathlib.Core.Bool.{Bool, true, _&&_, false≢true}
+use mathlib.Core.Bool.{true, false≢true}
 use mathlib.Core.List.{List, [], _∷_, _++_, map, map-append}
 use Prim.Native.Nat.{ℕ, zero, suc, _+_, _<_, _≤_}
 use native.Mathlib.Decide.{decLe}
@@ -12,27 +12,15 @@ use lib.Dec.{leb, ltb}
 use lib.ListN.{length, getD, drop, length-drop, drop-of-length-le}
 use lib.Seq.{drop-cons, drop-drop, take-suc}
 use Rattle.clauses.proofs.Satisfaction.{first-true, second-true, both-true, all-of-first, all-of-second}
-use Rattle.clauses.proofs.Answers.{passing}
-use Rattle.clauses.specs.Lists.{all-of}
+use Rattle.clauses.proofs.Answers.{passing, words-right, words-right-is}
 use Rattle.clauses.specs.Answers.{check, bad-refutation}
 use Rattle.clauses.specs.Clauses.{variable-of}
 use Rattle.clauses.specs.CnfWords.{clauses-of, ended}
-use Rattle.clauses.specs.Refutations.{Part, literals, hints, is-literals, other, part-after, own-after, word-right, word-checks, part-at-end, whole, refutation-checks, Step, step, steps-of}
+use Rattle.clauses.specs.Refutations.{Part, literals, hints, is-literals, other, word-checks, part-at-end, whole, refutation-checks, Step, step, steps-of}
 use Rattle.refutation.specs.Work.{LiteralsWithin, up-to-0, clause-from, step-clauses, StepsRight}
 use Rattle.refutation.proofs.ClausePlaces.{next-clause, ended-inside}
 
 -- ════════ Words by their parts ════════
-
--- What 11 asks of each word, without the places of its answers.
-abbrev words-right : ℕ → Part → ℕ → List ℤ → Bool
-words-right variables p own [] = true
-words-right variables p own (w ∷ ws) =
-    word-right variables p own w && words-right variables (part-after p w) (own-after p own w) ws
-
-words-right-is : (variables : ℕ) (p : Part) (own i : ℕ) (ws : List ℤ) → all-of passing (word-checks variables p own i ws) ≡ words-right variables p own ws
-words-right-is variables p own i [] = refl
-words-right-is variables p own i (w ∷ ws) =
-    ap (λ b. word-right variables p own w && b) (words-right-is variables (part-after p w) (own-after p own w) (suc i) ws)
 
 -- The words past the first 0.
 abbrev past-0 : List ℤ → List ℤ

@@ -8,20 +8,21 @@ use lib.Dec.{eqb, leb}
 use lib.ListN.{length}
 use denote.Enum.Declared.{tagOf}
 use types.Run.{OneOf, miss}
+use borrow.Author.Tests.{leb-true, eqb-true}
 use Rattle.clauses.specs.Lists.{all-of, numbered}
 use Rattle.clauses.specs.Answers.{Answer, Check, first-failing, granted}
-use Rattle.clauses.proofs.Satisfaction.{first-true, second-true, eq-if-eqb, le-if-leb}
-use Rattle.clauses.proofs.Answers.{passing, first-failing-append}
+use Rattle.clauses.proofs.Satisfaction.{first-true, second-true}
+use Rattle.clauses.proofs.Answers.{passing, first-failing-append, place-of}
 use Rattle.meaning.specs.Problem.{Problem, problem}
-use Rattle.meaning.specs.Check.{WellFormed, check-problem}
+use Rattle.meaning.specs.Check.{WellFormed}
 use Rattle.meaning.specs.Witnesses.{witness-length, byte, byte-checks, reset-checks, loop-checks, formula-check, shape, judge-bytes, judge-run, judge-formula}
 use Rattle.meaning.specs.Calls.{judge-witness}
-use Rattle.meaning.proofs.Check.{first-failing-refused, checked-if-well-formed, check-yes, not-well-formed, proper-if-well-formed}
+use Rattle.meaning.proofs.Check.{first-failing-refused, checked-if-well-formed, check-yes, proper-if-well-formed}
 use Rattle.problem.specs.declared.Sizes.{Sizes}
 use Rattle.problem.specs.declared.Refusal.{Refusal}
 use Rattle.problem.specs.declared.Checked.the-variants.{Good, Refused}
 use Rattle.problem.specs.Promise.{CheckedAs, refusal-answer}
-use Rattle.problem.proofs.Unique.{refusal-not-yes}
+use Rattle.problem.proofs.Whole.{refused-whatever}
 use Rattle.witness.specs.declared.Judgement.{Judgement}
 use Rattle.witness.specs.declared.Judgement.the-variants as Judged
 use Rattle.witness.specs.Tables.{Ready}
@@ -76,7 +77,7 @@ all-pass cs is a = go (all-of passing cs) refl
     go false e =
         let same : granted 0 ≡ granted 1 =
         (rw is at (a .answered (granted 0))) ∙ first-failing-refused cs (granted 0) (granted 1) e ∙ sym (rw is at (a .answered (granted 1))) in
-        let places : _≡_ {A = ℕ} 0 1 = ap (λ (x : Answer). x .place) same in
+        let places : _≡_ {A = ℕ} 0 1 = place-of same in
         absurd (omega arith)
 
 -- ════════ What 7 leaves ════════
@@ -84,11 +85,11 @@ all-pass cs is a = go (all-of passing cs) refl
 -- The length, and the first byte.
 pub length-right : (p : Problem) (bs : List ℕ) {y : Judgement} → y ≡ Judged.Yes → AnsweredBy (byte-checks p bs) y → length bs ≡ witness-length p
 length-right p bs is a =
-    eq-if-eqb _ _ (first-true (eqb (length bs) (witness-length p)) (all-of passing (numbered 0 bs (byte-check p))) (all-pass (byte-checks p bs) is a))
+    eqb-true _ _ (first-true (eqb (length bs) (witness-length p)) (all-of passing (numbered 0 bs (byte-check p))) (all-pass (byte-checks p bs) is a))
 
 first-within : (p : Problem) (bs : List ℕ) → all-of passing (numbered 0 bs (byte-check p)) ≡ true → byte bs 0 ≤ p .bound + 1
 first-within p [] e = omega arith
-first-within p (b ∷ bs) e = le-if-leb _ _ (first-true (leb b (p .bound + 1)) (all-of passing (numbered 1 bs (byte-check p))) e)
+first-within p (b ∷ bs) e = leb-true _ _ (first-true (leb b (p .bound + 1)) (all-of passing (numbered 1 bs (byte-check p))) e)
 
 pub start-right : (p : Problem) (bs : List ℕ) {y : Judgement} → y ≡ Judged.Yes → AnsweredBy (byte-checks p bs) y → byte bs 0 ≤ p .bound + 1
 start-right p bs is a =
@@ -130,8 +131,5 @@ module _ {version : ℕ} {ws : List ℕ} where
 
   -- A refused problem's answer does not depend on the witness.
   pub refused-judged : {f : Refusal} → CheckedAs version ws (Refused f) → (bs : List ℕ) → refusal-answer f ≡ judge-witness version ws bs
-  unfolding judge-witness check-problem
-  refused-judged {f} c bs =
-      c .answered
-      ∙ not-well-formed version ws (granted 0) (judge-bytes (problem ws) bs)
-      (λ w. refusal-not-yes f (ap (λ (x : Answer). x .number) (c .answered ∙ checked-if-well-formed version ws (granted 0) w)))
+  unfolding judge-witness
+  refused-judged {f} c bs = refused-whatever version ws f _ (c .answered)

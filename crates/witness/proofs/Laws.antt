@@ -3,27 +3,25 @@ use mathlib.Core.Path.{_≡_, refl, sym, _∙_, ap}
 use mathlib.Core.Bool.{Bool, true, false}
 use mathlib.Core.List.{List}
 use mathlib.Core.Logic.{_⊎_, inl, inr}
-use Prim.Native.Nat.{ℕ, _+_, _*_, _-_, _/_, _≤_, _<_}
+use Prim.Native.Nat.{ℕ, _+_, _-_, _≤_, _<_}
 use native.Mathlib.Nat.{eq-or-lt-of-le}
 use native.Mathlib.Omega.{arith}
-use lib.ListN.{length, getD}
-use lib.Seq.{getD-take}
+use lib.ListN.{length}
 use Rattle.meaning.specs.Limits.{nodes-limit}
-use Rattle.meaning.specs.Problem.{Problem, Node, W, node, atom, both, either, next, until, release}
+use Rattle.meaning.specs.Problem.{Problem, Node, node, atom, both, either, next, until, release}
 use Rattle.meaning.specs.Check.{Proper, NodeProper}
-use Rattle.meaning.specs.Runs.{literal-value}
 use Rattle.meaning.specs.Formulas.{formula}
 use Rattle.meaning.specs.Bounded.{bounded-value}
 use Rattle.meaning.specs.Witnesses.{rows, position}
 use Rattle.pairing.specs.NodeLaws.{NodeLaws, at-next, op-value, Q-value}
-use Rattle.pairing.proofs.Gates.{same-literal}
 use Rattle.pairing.proofs.Trees.{formula-is}
 use Rattle.pairing.proofs.NextValues.{at-next-same}
 use Rattle.pairing.proofs.NodeValues.{StartWithin, node-laws, node-laws-determine, values-zero-false}
 use Rattle.witness.specs.declared.nodes.Span.{Span}
-use Rattle.witness.specs.Tables.{row-in, positions-limit, at-node, Q-in, E-in, op-in, Q-end, shape-given, shape-in, RowsRight, SpanRight, Passed, LawsBelow}
+use Rattle.witness.specs.Tables.{positions-limit, at-node, Q-in, E-in, op-in, Q-end, shape-given, shape-in, RowsRight, SpanRight, Passed, LawsBelow}
 use Rattle.witness.proofs.Tables.{Agree, E-agrees, position-within, op-agrees}
 use Rattle.witness.proofs.Passes.{agree-elsewhere}
+use Rattle.witness.proofs.RowLaws.{literal-in-row}
 
 -- ════════ Laws of the nodes below ════════
 
@@ -146,16 +144,9 @@ Q-folds k rows P E Q (release a b) n i y q r = q
 module _ {p : Problem} (proper : Proper p) {span : Span} (right : SpanRight span) (last-is : span .last ≡ p .bound)
     {bs : List ℕ} {table : List Bool} (rows-right : RowsRight p bs (p .bound + 1) table) {t : List Bool}
     (laws : LawsBelow p span table t (length (p .nodes))) where
-  -- A row's first W + 1 values are those of the run, and an atom's literal is of one of these.
-  literal-right : (i : ℕ) → i ≤ p .bound → (x : ℕ) → x ≤ 2 * W p + 1 → literal-value (row-in table i) x ≡ literal-value (rows p bs i) x
-  literal-right i h x l =
-      same-literal (row-in table i) (rows p bs i) x
-      (sym (getD-take (W p + 1) (row-in table i) (x / 2) false (omega arith))
-      ∙ ap (λ (vs : List Bool). getD vs (x / 2) false) (rows-right .right i (omega arith)))
-
   op-right : (x : Node) (n i : ℕ) → NodeProper p n x → i ≤ p .bound → (y : Bool)
       → op-in span table t x i y ≡ op-value (p .bound) (rows p bs) (at-node t) (E-in (shape-in span) t) x i y
-  op-right (atom x) n i l h y = literal-right i h x l
+  op-right (atom x) n i l h y = literal-in-row rows-right (omega arith) x l
   op-right (both a b) n i l h y = refl
   op-right (either a b) n i l h y = refl
   op-right (next a) n i l h y = ap (λ (k : ℕ). at-next k (at-node t a) (E-in (shape-in span) t a) i) last-is

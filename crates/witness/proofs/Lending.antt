@@ -14,8 +14,9 @@ use Rattle.meaning.specs.Runs.{values, with-gates}
 use Rattle.meaning.specs.Witnesses.{bits, inputs-at, position, rows}
 use Rattle.pairing.proofs.Runs.{position-first, position-inputs, position-next}
 use Rattle.problem.specs.declared.Sizes.{Sizes}
+use Rattle.problem.proofs.SizesRead.{SizesOf}
 use Rattle.witness.specs.Tables.{Lent, RowsRight, row-width, row-in, given-width, latches-from, next-in}
-use Rattle.witness.proofs.Sizing.{SizesOf, sizes-read}
+use Rattle.witness.proofs.Sizing.{sizes-read}
 use Rattle.witness.proofs.RowLaws.{beginning-stays, rows-kept, next-are, one-more-row, put-there, wide-enough}
 
 module _ {ws : List ℕ} {s : Sizes} {bs : List ℕ} {t : ℕ} {table : List Bool} (lent : Lent ws s bs t table) where

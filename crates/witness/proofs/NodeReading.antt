@@ -1,19 +1,18 @@
 -- The nodes of a good problem's words, and the tables that have room for them. Assumes nothing.
-use mathlib.Core.Path.{_≡_, refl, sym, _∙_, ap}
+use mathlib.Core.Path.{_≡_, refl, _∙_, ap}
 use mathlib.Core.Bool.{Bool}
 use mathlib.Core.List.{List}
 use mathlib.Core.Logic.{_⊎_}
 use Prim.Native.Nat.{ℕ, _+_, _*_, _-_, _<_}
-use native.Mathlib.Nat.{add-zero}
 use native.Mathlib.Omega.{arith}
 use lib.ListN.{length}
 use Rattle.meaning.specs.Limits.{nodes-limit}
-use Rattle.meaning.specs.Problem.{Node, node, word, node-of, header, node-place, problem}
+use Rattle.meaning.specs.Problem.{Node, node, word, node-of, problem}
 use Rattle.meaning.specs.Formulas.{formula}
 use Rattle.meaning.specs.Bounded.{bounded-value}
 use Rattle.meaning.specs.Witnesses as Witnesses
-use Rattle.meaning.proofs.Check.{node-of-words}
 use Rattle.problem.specs.declared.Sizes.{Sizes}
+use Rattle.problem.proofs.SizesRead.{node-words-read}
 use Rattle.witness.specs.declared.nodes.Span.{Span}
 use Rattle.witness.specs.Tables.{Ready, TablesReady, PassReady, FormulaReady, RowsRight, SpanRight, LawsBelow, nodes-room, at-node, shape-given}
 use Rattle.witness.proofs.Sizing.{sizes-read}
@@ -26,16 +25,11 @@ module _ {ws : List ℕ} {s : Sizes} (ready : Ready ws s) where
   pub node-within : {n : ℕ} → n < s .nodes → n < nodes-limit
   node-within l = let h = ready .proper .nodes-within in let e = sizes-read ready .nodes-are in omega arith
 
-  node-from : (n : ℕ) → s .«nodes_from» + 3 * n ≡ node-place (header ws) n
-  node-from n = simp (ready .sizes-are, add-zero)
-
   -- The three words at a node's place are the node's.
   pub node-is : {n : ℕ} {x : Node} → n < s .nodes
       → x ≡ node-of (word ws (s .«nodes_from» + 3 * n)) (word ws (s .«nodes_from» + 3 * n + 1)) (word ws (s .«nodes_from» + 3 * n + 2))
       → x ≡ node (problem ws) n
-  node-is {n} l e =
-      let there : n < header ws .nodes = rw (ready .sizes-are) at l in
-      rw (node-from n) at e ∙ sym (node-of-words ws n there)
+  node-is {n} l e = e ∙ node-words-read ws (ready .sizes-are) n l
 
 module _ {ws : List ℕ} {s : Sizes} {span : Span} {rows t : List Bool} (tables : TablesReady ws s span rows t) where
   pub last-right : span .last ≡ problem ws .bound

@@ -3,7 +3,7 @@ use mathlib.Core.Path.{_≡_, refl, sym, _∙_, ap, subst}
 use mathlib.Core.Bool.{Bool, cond}
 use mathlib.Core.List.{List}
 use mathlib.Core.Logic.{_⊎_, inl, inr}
-use Prim.Native.Nat.{ℕ, _+_, _*_, _-_, _≤_, _<_}
+use Prim.Native.Nat.{ℕ, _+_, _*_, _≤_, _<_}
 use native.Mathlib.Nat.{eq-or-lt-of-le}
 use native.Mathlib.Numerals.{lt-add-one}
 use native.Mathlib.Omega.{arith}
@@ -13,9 +13,10 @@ use lib.ListN.{length, length-set}
 use Rattle.meaning.specs.Limits.{nodes-limit, bound-limit}
 use Rattle.meaning.specs.Problem.{Node}
 use Rattle.pairing.specs.NodeLaws.{at-next}
+use Rattle.pairing.proofs.NextValues.{at-next-stays}
 use Rattle.witness.specs.declared.nodes.Span.{Span}
 use Rattle.witness.specs.Tables.{positions-limit, at-node, op-in, PassReady, Passed}
-use Rattle.witness.proofs.Tables.{stored, stored-there, stored-row, stored-after, next-stays, Agree, position-within, op-agrees}
+use Rattle.witness.proofs.Tables.{stored, stored-there, stored-row, stored-after, Agree, position-within, op-agrees}
 
 -- Where the rows other than m are the same, the rows below n are.
 pub agree-elsewhere : (n m : ℕ) (t u : List Bool) → n < nodes-limit → (m ≡ n) ⊎ (m ≡ nodes-limit + n)
@@ -90,8 +91,8 @@ module _ {span : Span} {rows : List Bool} {m : ℕ} {x : Node} {end : Bool} {t :
 
     next-same : (j : ℕ) → i ≤ j → at-next (span .last) (at-node u m) end j ≡ at-next (span .last) (at-node after m) end j
     next-same j l =
-        next-stays (span .last) (at-node u m) (at-node after m) end j
-        (λ h. sym (stored-after u m i v within (j + 1) (omega arith)))
+        at-next-stays (span .last) (at-node u m) (at-node after m) end end j
+        (λ h. sym (stored-after u m i v within (j + 1) (omega arith))) refl
 
     pub passing-more : Passing span rows m x end t after v i
     passing-more = record {

@@ -1,10 +1,10 @@
 -- Laws of a table of rows: what a store leaves as it was, and the next values of a row. Assumes nothing.
-use mathlib.Core.Path.{_≡_, refl, sym, _∙_, ap}
+use mathlib.Core.Path.{_≡_, sym, _∙_, ap}
 use mathlib.Core.Logic.{_⊎_, inl, inr}
 use mathlib.Core.Bool.{Bool, false}
-use mathlib.Core.List.{List, [], _∷_, _++_, map}
+use mathlib.Core.List.{List, [], _∷_, _++_}
 use Prim.Native.Nat.{ℕ, zero, suc, _+_, _*_, _/_, _<_, _≤_}
-use native.Mathlib.Nat.{zero-add, suc-add, le-of-suc-le-suc, not-suc-le-zero, eq-or-lt-of-le, mul-le-mul-right}
+use native.Mathlib.Nat.{zero-add, suc-add, eq-or-lt-of-le, mul-le-mul-right}
 use native.Mathlib.Omega.{arith}
 use lib.ListN.{length, take, drop, getD, length-map}
 use lib.Seq.{take-take, take-nil, take-at, drop-at, getD-take, length-take-le, ext-getD}
@@ -14,6 +14,7 @@ use Rattle.meaning.specs.Check.{Proper}
 use Rattle.meaning.specs.Runs.{literal-value, next-values}
 use Rattle.meaning.specs.Witnesses.{position, rows}
 use Rattle.pairing.proofs.Gates.{same-literal}
+use Rattle.pairing.proofs.Rows.{next-by-row}
 use Rattle.witness.specs.Tables.{RowsRight, row-width, row-in, next-in}
 
 -- ════════ Lists ════════
@@ -38,12 +39,6 @@ module _ {A : Type 0} where
   pub put-there : (n m : ℕ) (l l′ xs : List A) → n ≤ length l → take (n + m) l′ ≡ take n l ++ xs → take m (drop n l′) ≡ xs
   put-there n m l l′ xs h e = part-of-take n m l′ ∙ ap (drop n) e ∙ drop-at (take n l) xs n (length-take-le n l h)
 
--- The default of a place within a list does not matter.
-getD-map-within : {A B : Type 0} (f : A → B) (xs : List A) (i : ℕ) (d : A) (e : B) → i < length xs → getD (map f xs) i e ≡ f (getD xs i d)
-getD-map-within f [] i d e h = absurd (not-suc-le-zero h)
-getD-map-within f (x ∷ xs) zero d e h = refl
-getD-map-within f (x ∷ xs) (suc i) d e h = getD-map-within f xs i d e (le-of-suc-le-suc h)
-
 -- ════════ Rows ════════
 
 -- A row depends on the table up to its end.
@@ -59,7 +54,7 @@ length-next-in p row = length-map (p .latches) (λ (c : Latch). literal-value ro
 
 pub next-in-at : (p : Problem) (row : List Bool) (i : ℕ) → i < length (p .latches)
     → getD (next-in p row) i false ≡ literal-value row (latch p i .next)
-next-in-at p row i h = getD-map-within (λ (c : Latch). literal-value row (c .next)) (p .latches) i _ false h
+next-in-at = next-by-row
 
 -- ════════ Rows that are right ════════
 

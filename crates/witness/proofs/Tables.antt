@@ -1,17 +1,15 @@
 -- What a store into the nodes' table leaves, and what an op's value over the table depends on. Assumes nothing.
 use mathlib.Core.Path.{_≡_, refl}
-use mathlib.Core.Bool.{Bool, true, false, cond}
+use mathlib.Core.Bool.{Bool, true, false}
 use mathlib.Core.List.{List}
 use Prim.Native.Nat.{ℕ, _+_, _*_, _≤_, _<_}
 use native.Mathlib.Omega.{arith}
-use lib.Dec.{leb}
 use lib.ListN.{length, set}
 use lib.Seq.{getD-set-same, getD-set-other}
-use Rattle.clauses.proofs.Satisfaction.{le-if-leb}
 use Rattle.meaning.specs.Limits.{bound-limit}
 use Rattle.meaning.specs.Problem.{Problem, Node}
 use Rattle.meaning.specs.Check.{NodeProper}
-use Rattle.pairing.specs.NodeLaws.{at-next, E-value}
+use Rattle.pairing.specs.NodeLaws.{E-value}
 use Rattle.pairing.proofs.NodeValues.{op-same}
 use Rattle.witness.specs.declared.nodes.Span.{Span}
 use Rattle.witness.specs.Tables.{positions-limit, row-in, at-node, Q-in, E-in, op-in, shape-given, shape-in, SpanRight}
@@ -33,14 +31,6 @@ module _ (t : List Bool) (m i : ℕ) (v : Bool) (within : i < positions-limit) w
 
   pub stored-after : (j : ℕ) → i < j → at-node (stored t m i v) m j ≡ at-node t m j
   stored-after j h = getD-set-other t _ _ v false (λ e. omega arith)
-
--- Only the next position is read.
-pub next-stays : (k : ℕ) (f g : ℕ → Bool) (end : Bool) (i : ℕ) → (i + 1 ≤ k → f (i + 1) ≡ g (i + 1)) → at-next k f end i ≡ at-next k g end i
-next-stays k f g end i same = go (leb (i + 1) k) refl
-  where
-    go : (b : Bool) → leb (i + 1) k ≡ b → cond b (f (i + 1)) end ≡ cond b (g (i + 1)) end
-    go true e = same (le-if-leb (i + 1) k e)
-    go false e = refl
 
 -- ════════ Tables that agree below a node ════════
 

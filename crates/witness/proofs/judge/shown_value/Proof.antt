@@ -1,5 +1,4 @@
 -- `shown_value` meets its contract: the first byte gives the shape. Assumes nothing.
-use Prim.Native.Nat.{_-_}
 use Rattle.meaning.specs.Witnesses.{byte}
 use Rattle.witness.proofs.Sizing.{sizes-read}
 use Rattle.witness.proofs.Checking.{shape-later}
