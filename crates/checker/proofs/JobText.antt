@@ -122,7 +122,7 @@ by-cases true x y = refl
 by-cases false x y = refl
 
 module _ (bs : List ℕ) where
-  printed-is : answer-text (job-answer bs) (job-words bs) ≡ printed bs
+  pub printed-is : answer-text (job-answer bs) (job-words bs) ≡ printed bs
   unfolding printed
   printed-is = by-cases (eqb (job-answer bs .number) 0) (cnf-text (variables (problem (job-words bs))) (cnf (problem (job-words bs)))) (refusal-line (job-answer bs))
 

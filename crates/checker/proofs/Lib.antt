@@ -11,5 +11,6 @@ pub mod LazyProblem
 pub mod Unique
 pub mod JobText
 pub mod LazyText
+pub mod TextRoom
 pub mod CallsMean
 pub mod Demands

@@ -10,7 +10,7 @@ use lib.Dec.{leb}
 use lib.IntN.{ℤ, pos, negsuc}
 use lib.Signed.{ltZ}
 use lib.ListN.{length, getD, take, drop, set, length-append, take-append-drop}
-use lib.Seq.{take-suc}
+use lib.Seq.{take-suc, take-at}
 use Rattle.clauses.specs.Lists.{written}
 use Rattle.clauses.specs.Answers.{answer}
 use Rattle.clauses.specs.Clauses.{variable-of}
@@ -162,6 +162,9 @@ written-whole {text} {out} {n} {out′} p = go (leb (length text) (length out)) 
         → (n ≡ length text) × (out′ ≡ written text out)
     go true e f = (ap count-of e, f)
     go false e f = absurd (true≢false (ap was-written e))
+
+pub text-first : {text out : List ℕ} {n : ℕ} {out′ : List ℕ} → Prints text out (Bytes n) out′ → take n out′ ≡ text
+text-first {text} {out} {n} p = let whole = written-whole p in rw (whole .1) (take-at text (drop (length text) out) n (sym (whole .0)))
 
 pub bytes-within : {text out : List ℕ} {n : ℕ} {out′ : List ℕ} → Prints text out (Bytes n) out′ → n ≤ length out′
 bytes-within {text} {out} {n} {out′} p =

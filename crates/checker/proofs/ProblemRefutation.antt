@@ -170,19 +170,19 @@ module _ (version : ℕ) (ws : List ℕ) (refutation : List ℤ) (room numbers c
         sum-is : n .clauses + s ≡ length (cnf (problem ws)) + length (steps-of refutation)
         sum-is = rw (clauses-counted g, right .1)
 
-        pub numbers-refused : numbers ≤ n .variables → Refuses (answers.AreaTooSmall (n .variables + 1))
+        pub numbers-refused : numbers < n .variables + 1 → Refuses (answers.AreaTooSmall (n .variables + 1))
         unfolding area-checks
         numbers-refused h =
             rw (add-one (n .variables))
             (record { answered = sym (past-words ∙ rw (lt-leb (suc (n .variables)) numbers (omega arith))); unchanged = refl })
 
-        module _ (enough : n .variables < numbers) where
+        module _ (enough : n .variables + 1 ≤ numbers) where
           pub clauses-refused : clauses < n .clauses + s → Refuses (answers.AreaTooSmall (n .clauses + s))
           unfolding area-checks
           clauses-refused h =
               let short = lt-leb (length (cnf (problem ws)) + length (steps-of refutation)) clauses (rw sum-is at h) in
               record {
-                answered = ap area-too-small sum-is ∙ sym (past-words ∙ rw (le-leb (suc (n .variables)) numbers enough, short));
+                answered = ap area-too-small sum-is ∙ sym (past-words ∙ rw (le-leb (suc (n .variables)) numbers (omega arith), short));
                 unchanged = refl;
               }
 
@@ -195,7 +195,7 @@ module _ (version : ℕ) (ws : List ℕ) (refutation : List ℤ) (room numbers c
                 variables-are = variables-counted g;
                 words-are = words-counted g;
                 fits = room-there;
-                by-steps = past-words ∙ rw (le-leb (suc (n .variables)) numbers enough, long);
+                by-steps = past-words ∙ rw (le-leb (suc (n .variables)) numbers (omega arith), long);
               }
 
 -- ════════ The outcomes ════════

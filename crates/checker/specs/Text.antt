@@ -2,13 +2,14 @@
 use mathlib.Core.Path.{_≡_}
 use mathlib.Core.Bool.{cond}
 use mathlib.Core.List.{List, _++_}
-use Prim.Native.Nat.{ℕ, _+_}
+use Prim.Native.Nat.{ℕ, _+_, _*_}
 use lib.Dec.{eqb}
 use lib.IntN.{ℤ}
 use lib.ListN.{length, take, drop}
 use Rattle.clauses.specs.Lists.{each, written}
 use Rattle.clauses.specs.Answers.{Answer}
 use Rattle.clauses.specs.CnfWords.{is-0}
+use Rattle.meaning.specs.Limits.{program-room}
 use Rattle.meaning.specs.Problem.{problem}
 use Rattle.meaning.specs.Cnf.{cnf, variables}
 use Rattle.meaning.specs.JobFile.{bytes-of, decimal, signed-decimal, header-line, cnf-text, refusal-line}
@@ -32,6 +33,11 @@ line-of opening first between second = opening ++ decimal first ++ between ++ de
 -- What is printed for words by the answer to them: the CNF's text, or the refusal's line.
 abbrev pub answer-text : Answer → List ℕ → List ℕ
 answer-text a ws = cond (eqb (a .number) 0) (cnf-text (variables (problem ws)) (cnf (problem ws))) (refusal-line a)
+
+-- Bytes enough for every text of the program: 12 for each of its CNF words (a sign, ten digits, a space), and 28 for the header (8 of its
+-- own, ten digits for each of its numbers).
+unfoldable pub text-limit : ℕ
+text-limit = 12 * program-room + 28
 
 -- ════════ In a buffer ════════
 

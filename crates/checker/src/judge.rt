@@ -41,11 +41,13 @@ fn before_writing(
         refutation::Counted::Count(s) => s,
         refutation::Counted::BadAt(i) => return Before::Refused(Refuted::BadRefutation(i)),
     };
-    if numbers <= n.variables {
-        return Before::Refused(Refuted::AreaTooSmall(n.variables + 1));
+    let numbers_needed = n.variables + 1;
+    if numbers < numbers_needed {
+        return Before::Refused(Refuted::AreaTooSmall(numbers_needed));
     }
-    if places < n.clauses + steps {
-        return Before::Refused(Refuted::AreaTooSmall(n.clauses + steps));
+    let places_needed = n.clauses + steps;
+    if places < places_needed {
+        return Before::Refused(Refuted::AreaTooSmall(places_needed));
     }
     Before::Ready(variables, n.words)
 }

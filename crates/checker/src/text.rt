@@ -3,11 +3,11 @@ use crate::put::digits;
 use crate::put::put_bytes;
 use crate::put::put_line;
 use crate::put::put_number;
+use refutation::literals::variable;
 ghost use mathlib.Core.Path.{_≡_};
 ghost use Prim.Native.Nat.{_+_, _≤_, min};
 ghost use lib.ListN.{length};
 ghost use Rattle.clauses.specs.Answers.{answer};
-ghost use Rattle.clauses.specs.Clauses.{variable-of};
 ghost use Rattle.meaning.specs.JobFile.{header-line, refusal-line};
 ghost use Rattle.checker.specs.Text.{word-text, words-text, flat-text, Put};
 ghost use Rattle.checker.specs.Promise.{largest-size, size, Prints};
@@ -31,17 +31,6 @@ fn sum(a: usize, b: usize) -> usize
     }
 }
 
-// A word without its sign. The negation of the least i32 fits an i64.
-fn magnitude(w: i32) -> u64
-    ensures { λ r. ⌜ r ≡ variable-of w ⌝ }
-{
-    if w < 0 {
-        (-(w as i64)) as u64
-    } else {
-        w as u64
-    }
-}
-
 fn word_size(w: i32) -> usize
     ensures { λ r. ⌜ r ≡ length (word-text w) ⌝ }
 {
@@ -49,9 +38,9 @@ fn word_size(w: i32) -> usize
         return 2;
     }
     if w < 0 {
-        return digits(magnitude(w)) + 2;
+        return digits(variable(w) as u64) + 2;
     }
-    digits(magnitude(w)) + 1
+    digits(variable(w) as u64) + 1
 }
 
 fn put_word(w: i32, at: usize, out: &mut [u8]) -> usize
@@ -63,11 +52,11 @@ fn put_word(w: i32, at: usize, out: &mut [u8]) -> usize
     }
     if w < 0 {
         out[at] = b'-';
-        let end = put_number(magnitude(w), at + 1, out);
+        let end = put_number(variable(w) as u64, at + 1, out);
         out[end] = b' ';
         return end + 1;
     }
-    let end = put_number(magnitude(w), at, out);
+    let end = put_number(variable(w) as u64, at, out);
     out[end] = b' ';
     end + 1
 }

@@ -3,7 +3,7 @@ ghost use mathlib.Core.Path.{_≡_};
 ghost use Rattle.clauses.specs.Clauses.{variable-of};
 
 // The number of a literal's variable. The negation of the least i32 fits an i64.
-pub(crate) fn variable(w: i32) -> usize
+pub fn variable(w: i32) -> usize
     ensures { λ r. ⌜ r ≡ variable-of w ⌝ }
 {
     if w < 0 {

@@ -84,26 +84,23 @@ returns-3 c =
     words-refused _ _ _ _ _ _ (counted (test .before .before)) (test .if1 .left)
     (ap (counted-answer bad-refutation) (sym (c .before .i .given .1)) ∙ call .count-steps .ensures)
 
-add-t22 : tie.Need-add-t22
+add-numbers-needed : tie.Need-add-numbers-needed
 unfolding variables-limit
-add-t22 c = omega (arith, few-variables (counted (counting (c .before .before .before))))
+add-numbers-needed c = omega (arith, few-variables (counted (counting (c .before))))
 
 returns-4 : tie.Need-returns-4
 returns-4 c =
-    let s = c .before .before .before in
-    numbers-refused _ _ _ _ _ _ (counted (counting s)) (room-there s) (steps-right s) (c .before .if2 .taken)
+    let s = c .before .before in
+    numbers-refused _ _ _ _ _ _ (counted (counting s)) (room-there s) (steps-right s) (c .if2 .taken)
 
-add-if3 : tie.Need-add-if3
-add-if3 c = omega (arith, both-fit (c .before .before .before))
-
-add-t25 : tie.Need-add-t25
-add-t25 c = omega (arith, both-fit (c .before .before .before .before .before))
+add-places-needed : tie.Need-add-places-needed
+add-places-needed c = omega (arith, both-fit (c .before .before .before))
 
 returns-5 : tie.Need-returns-5
 returns-5 c =
-    let test = c .before .before .before in
+    let test = c .before .before in
     let s = test .before .before in
-    clauses-refused _ _ _ _ _ _ (counted (counting s)) (room-there s) (steps-right s) (test .if2 .left) (c .before .if3 .taken)
+    clauses-refused _ _ _ _ _ _ (counted (counting s)) (room-there s) (steps-right s) (test .if2 .left) (c .if3 .taken)
 
 returns-6 : tie.Need-returns-6
 returns-6 c =
@@ -125,9 +122,8 @@ before-writing-spec =
     enum-known-s
     enum-known-i
     returns-3
-    add-t22
+    add-numbers-needed
     returns-4
-    add-if3
-    add-t25
+    add-places-needed
     returns-5
     returns-6)

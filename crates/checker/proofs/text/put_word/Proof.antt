@@ -45,8 +45,8 @@ room-negative : (c : tie.Then2)
     ≤ length (c .before .before .before .args .out .now)
 room-negative c = omega (arith, length-negative (c .before .before .before .args .w) (negative c), c .before .before .before .pre)
 
-magnitude-is : (c : tie.After-magnitude) → c .magnitude .result ≡ variable-of (c .before .before .before .before .args .w)
-magnitude-is c = c .magnitude .ensures ∙ ap variable-of (word-is _ (c .before .before .before .before .fits .w))
+variable-is : (c : tie.After-variable) → c .variable .result ≡ variable-of (c .before .before .before .before .args .w)
+variable-is c = c .variable .ensures ∙ ap variable-of (word-is _ (c .before .before .before .before .fits .w))
 
 -- The sign and the digits.
 signed : (c : tie.After-put-number)
@@ -59,19 +59,19 @@ signed c =
     let start = c .before .before .before .before .before .before in
     let room = room-negative (c .before .before .before) in
     put-then (omega (arith, room)) (put-byte 45 (start .args .at) (start .args .out .now) (omega (arith, room)))
-    (rw (magnitude-is (c .before .before)) at (c .put-number .ensures))
+    (rw (variable-is (c .before .before)) at (c .put-number .ensures))
 
 slice-write-out : tie.Need-slice-write-out
 slice-write-out c = omega (arith, room-negative c)
 
-magnitude-requires : tie.Need-magnitude-requires
-magnitude-requires c κs = search needs
+variable-requires : tie.Need-variable-requires
+variable-requires c κs = search needs
 
 add-put-number : tie.Need-add-put-number
 add-put-number c = search needs
 
 put-number-requires : tie.Need-put-number-requires
-put-number-requires c κs = rw (length-set, magnitude-is (c .before)) (omega (arith, room-negative (c .before .before)))
+put-number-requires c κs = rw (length-set, variable-is (c .before)) (omega (arith, room-negative (c .before .before)))
 
 slice-write-out-2 : tie.Need-slice-write-out-2
 slice-write-out-2 c = inside-after (omega (arith, room-negative (c .before .before .before .before .before))) (signed (c .before .before))
@@ -100,8 +100,8 @@ room-positive : (c : tie.Else2)
 room-positive c =
     omega (arith, length-positive (c .before .before .before .args .w) (positive c .0) (positive c .1), c .before .before .before .pre)
 
-magnitude2-is : (c : tie.After-magnitude2) → c .magnitude2 .result ≡ variable-of (c .before .before .before .before .args .w)
-magnitude2-is c = c .magnitude2 .ensures ∙ ap variable-of (word-is _ (c .before .before .before .before .fits .w))
+variable2-is : (c : tie.After-variable2) → c .variable2 .result ≡ variable-of (c .before .before .before .before .args .w)
+variable2-is c = c .variable2 .ensures ∙ ap variable-of (word-is _ (c .before .before .before .before .fits .w))
 
 unsigned : (c : tie.After-put-number2)
     → Put (decimal (variable-of (c .before .before .before .before .before .before .args .w)))
@@ -109,13 +109,13 @@ unsigned : (c : tie.After-put-number2)
     (c .before .before .before .before .before .before .args .out .now)
     (c .put-number2 .result)
     (c .put-number2 .last .1 .1 .0)
-unsigned c = rw (magnitude2-is (c .before .before)) at (c .put-number2 .ensures)
+unsigned c = rw (variable2-is (c .before .before)) at (c .put-number2 .ensures)
 
-magnitude-requires-2 : tie.Need-magnitude-requires-2
-magnitude-requires-2 c κs = search needs
+variable-requires-2 : tie.Need-variable-requires-2
+variable-requires-2 c κs = search needs
 
 put-number-requires-2 : tie.Need-put-number-requires-2
-put-number-requires-2 c κs = rw (magnitude2-is (c .before)) (omega (arith, room-positive (c .before .before)))
+put-number-requires-2 c κs = rw (variable2-is (c .before)) (omega (arith, room-positive (c .before .before)))
 
 slice-write-out-3 : tie.Need-slice-write-out-3
 slice-write-out-3 c = inside-after (omega (arith, room-positive (c .before .before .before .before .before))) (unsigned (c .before .before))
@@ -141,14 +141,14 @@ put-word-spec =
     same-length
     returns
     slice-write-out
-    magnitude-requires
+    variable-requires
     add-put-number
     put-number-requires
     slice-write-out-2
     add-result
     same-length-2
     returns-2
-    magnitude-requires-2
+    variable-requires-2
     put-number-requires-2
     slice-write-out-3
     add-result-2

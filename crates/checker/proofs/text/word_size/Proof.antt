@@ -14,38 +14,38 @@ use Rattle.checker.proofs.text.word_size.Tie as tie
 returns : tie.Need-returns
 returns c = sym (length-0 (c .before .args .w) (at-0 _ (c .before .fits .w) (c .if1 .taken)))
 
-magnitude-requires : tie.Need-magnitude-requires
-magnitude-requires c κs = search needs
+variable-requires : tie.Need-variable-requires
+variable-requires c κs = search needs
 
 digits-requires : tie.Need-digits-requires
 digits-requires c κs = search needs
 
 add-result : tie.Need-add-result
-add-result c = omega (arith, c .digits .ensures, length-u64 (c .before .magnitude .result) (omega arith))
+add-result c = omega (arith, c .digits .ensures, length-u64 (c .before .variable .result) (omega arith))
 
 returns-2 : tie.Need-returns-2
 returns-2 c =
     let start = c .before .before .before .before in
     let fits-back = word-is (start .args .w) (start .fits .w) in
     let shown : c .digits .result ≡ length (decimal (variable-of (start .args .w))) =
-    c .digits .ensures ∙ ap (λ n. length (decimal n)) (c .before .magnitude .ensures ∙ ap variable-of fits-back) in
+    c .digits .ensures ∙ ap (λ n. length (decimal n)) (c .before .variable .ensures ∙ ap variable-of fits-back) in
     omega (arith, length-negative (start .args .w) (rw fits-back at (c .before .before .if2 .taken)))
 
-magnitude-requires-2 : tie.Need-magnitude-requires-2
-magnitude-requires-2 c κs = search needs
+variable-requires-2 : tie.Need-variable-requires-2
+variable-requires-2 c κs = search needs
 
 digits-requires-2 : tie.Need-digits-requires-2
 digits-requires-2 c κs = search needs
 
 add-result-2 : tie.Need-add-result-2
-add-result-2 c = omega (arith, c .digits2 .ensures, length-u64 (c .before .magnitude2 .result) (omega arith))
+add-result-2 c = omega (arith, c .digits2 .ensures, length-u64 (c .before .variable2 .result) (omega arith))
 
 returns-3 : tie.Need-returns-3
 returns-3 c =
     let start = c .before .before .before .before in
     let fits-back = word-is (start .args .w) (start .fits .w) in
     let shown : c .digits2 .result ≡ length (decimal (variable-of (start .args .w))) =
-    c .digits2 .ensures ∙ ap (λ n. length (decimal n)) (c .before .magnitude2 .ensures ∙ ap variable-of fits-back) in
+    c .digits2 .ensures ∙ ap (λ n. length (decimal n)) (c .before .variable2 .ensures ∙ ap variable-of fits-back) in
     omega (arith, length-positive (start .args .w) (not-0 (start .args .w) (c .before .before .before .if1 .left)) (rw fits-back at (c .before .before .if2 .left)))
 
 pub word-size-spec : {M : Type 1} → statement M
@@ -53,11 +53,11 @@ word-size-spec =
     tie.close
     (tie.spec
     returns
-    magnitude-requires
+    variable-requires
     digits-requires
     add-result
     returns-2
-    magnitude-requires-2
+    variable-requires-2
     digits-requires-2
     add-result-2
     returns-3)
