@@ -1,5 +1,6 @@
 //! A second reading of document 01 in plain Rust, to test the checker against.
 
+mod answers;
 mod cnf;
 mod job;
 mod make;
@@ -33,14 +34,14 @@ fn number<T: std::str::FromStr>(text: &str) -> Result<T, String> {
 
 fn answer() -> Result<(), String> {
     let mut out = BufWriter::with_capacity(1 << 16, io::stdout().lock());
-    let answered = requests::answer_all(&mut BufReader::new(io::stdin().lock()), &mut out);
+    let answered = answers::answer_all(&mut BufReader::new(io::stdin().lock()), &mut out);
     out.flush().map_err(|error| error.to_string())?;
     answered
 }
 
 fn against(answers: &str) -> Result<(), String> {
     let theirs = std::fs::read(answers).map_err(|error| format!("{answers}: {error}"))?;
-    match requests::first_difference(&mut BufReader::new(io::stdin().lock()), &theirs) {
+    match answers::first_difference(&mut BufReader::new(io::stdin().lock()), &theirs) {
         Some(difference) => print(format!("{difference}\n").as_bytes()),
         None => print(b"no request is answered otherwise\n"),
     }
@@ -67,7 +68,7 @@ fn make_requests(seed: &str, kind: &str, count: &str) -> Result<(), String> {
 fn tally(seed: &str, kind: &str, count: &str) -> Result<(), String> {
     let made = make::requests(number(seed)?, kind, number(count)?);
     let made = made.ok_or_else(|| format!("no kind {kind}"))?;
-    for ((call, answer), times) in requests::tally(&made) {
+    for ((call, answer), times) in answers::tally(&made) {
         print(format!("call {call} answer {answer}: {times}\n").as_bytes())?;
     }
     Ok(())

@@ -1,9 +1,6 @@
-//! Requests: their bytes, and the answers to them.
+//! Requests, and their bytes.
 
-use crate::problem::{check, Answer};
-use crate::{cnf, refutation, witness};
-use std::collections::BTreeMap;
-use std::io::{self, ErrorKind, Read, Write};
+use std::io::{self, ErrorKind, Read};
 
 /// Capacities: a count above its own is `too long`.
 pub const PROBLEM_WORDS: u32 = 4_096;
@@ -11,9 +8,6 @@ pub const WITNESS_BYTES: u32 = 8_192;
 pub const CNF_WORDS: u32 = 65_536;
 pub const REFUTATION_WORDS: u32 = 65_536;
 pub const AREA_WORDS: u32 = 66_000;
-
-/// What a buffer that a call may write holds before the call.
-const FILL: u8 = 7;
 
 #[derive(Clone, Debug)]
 pub enum Request {
@@ -72,7 +66,7 @@ fn put_words(out: &mut Vec<u8>, words: impl ExactSizeIterator<Item = u32>) {
 
 impl Request {
     /// The byte for the call, and the number that comes with it.
-    fn call(&self) -> (u8, u32) {
+    pub fn call(&self) -> (u8, u32) {
         match *self {
             Request::Check { version, .. } => (1, version),
             Request::Cnf { version, .. } => (2, version),
@@ -145,7 +139,7 @@ fn signed(input: &mut impl Read, most: u32) -> Result<Vec<i32>, Fault> {
 }
 
 /// The next request, or None at the end of the input.
-fn read(input: &mut impl Read) -> Result<Option<Request>, Fault> {
+pub fn read(input: &mut impl Read) -> Result<Option<Request>, Fault> {
     let mut call = [0];
     if input.read(&mut call)? == 0 {
         return Ok(None);
@@ -177,147 +171,4 @@ fn read(input: &mut impl Read) -> Result<Option<Request>, Fault> {
             by_clauses: count(input, AREA_WORDS)?,
         },
     }))
-}
-
-/// A call's answer and its written buffers, as they are after the call.
-struct Reply {
-    answer: Answer,
-    buffers: Vec<Vec<i64>>,
-}
-
-fn room(count: u32) -> Vec<i32> {
-    vec![i32::from(FILL); count as usize]
-}
-
-fn area(count: u32) -> Vec<u64> {
-    vec![u64::from(FILL); count as usize]
-}
-
-fn shown_room(room: &[i32]) -> Vec<i64> {
-    room.iter().map(|&word| i64::from(word)).collect()
-}
-
-fn shown_area(area: &[u64]) -> Vec<i64> {
-    area.iter().map(|&word| i64::try_from(word).expect("a work word is 0 or 7")).collect()
-}
-
-/// Judges a refutation of the CNF of problem words; the room holds the CNF at 0, 13 and 14 alone.
-pub fn judge_problem_refutation(
-    version: u32,
-    problem: &[u32],
-    refutation: &[i32],
-    room: &mut [i32],
-    by_numbers: &mut [u64],
-    by_clauses: &mut [u64],
-) -> Answer {
-    let problem = match check(version, problem) {
-        Ok(problem) => problem,
-        Err(answer) => return answer,
-    };
-    let mut written = room.to_vec();
-    let answer = cnf::write(&problem, &mut written);
-    if answer.number != 0 {
-        return answer;
-    }
-    let clauses = cnf::clauses(&written[..answer.place]);
-    let variables = cnf::variables(&problem);
-    let answer = refutation::judge(variables, &clauses, refutation, by_numbers, by_clauses);
-    if matches!(answer.number, 0 | 13 | 14) {
-        room.copy_from_slice(&written);
-    }
-    answer
-}
-
-fn reply(request: &Request) -> Reply {
-    match request {
-        Request::Check { version, problem } => {
-            let answer = check(*version, problem).map_or_else(|no| no, |_| Answer { number: 0, place: 0 });
-            Reply { answer, buffers: vec![] }
-        }
-        Request::Cnf { version, problem, room: count } => {
-            let mut room = room(*count);
-            let written = check(*version, problem).map(|problem| cnf::write(&problem, &mut room));
-            let answer = written.unwrap_or_else(|no| no);
-            Reply { answer, buffers: vec![shown_room(&room)] }
-        }
-        Request::Witness { version, problem, witness } => {
-            let judged = check(*version, problem).map(|problem| witness::judge(&problem, witness));
-            Reply { answer: judged.unwrap_or_else(|no| no), buffers: vec![] }
-        }
-        Request::Bare { variables, cnf, refutation, by_numbers, by_clauses } => {
-            let (mut first, mut second) = (area(*by_numbers), area(*by_clauses));
-            let answer = refutation::judge_bare(*variables, cnf, refutation, &mut first, &mut second);
-            Reply { answer, buffers: vec![shown_area(&first), shown_area(&second)] }
-        }
-        Request::Refutation { version, problem, refutation, room: count, by_numbers, by_clauses } => {
-            let mut room = room(*count);
-            let (mut first, mut second) = (area(*by_numbers), area(*by_clauses));
-            let answer =
-                judge_problem_refutation(*version, problem, refutation, &mut room, &mut first, &mut second);
-            let buffers = vec![shown_room(&room), shown_area(&first), shown_area(&second)];
-            Reply { answer, buffers }
-        }
-    }
-}
-
-fn print(reply: &Reply, out: &mut impl Write) -> io::Result<()> {
-    writeln!(out, "{} {}", reply.answer.number, reply.answer.place)?;
-    for buffer in &reply.buffers {
-        for (n, word) in buffer.iter().enumerate() {
-            if n > 0 {
-                out.write_all(b" ")?;
-            }
-            write!(out, "{word}")?;
-        }
-        out.write_all(b"\n")?;
-    }
-    Ok(())
-}
-
-/// How often each call gives each answer.
-pub fn tally(requests: &[Request]) -> BTreeMap<(u8, u32), usize> {
-    let mut times = BTreeMap::new();
-    for request in requests {
-        *times.entry((request.call().0, reply(request).answer.number)).or_insert(0) += 1;
-    }
-    times
-}
-
-/// Answers every request of the input, up to its end or its first fault.
-pub fn answer_all(input: &mut impl Read, out: &mut impl Write) -> Result<(), String> {
-    loop {
-        let failed = |error: io::Error| error.to_string();
-        match read(input) {
-            Ok(None) => return Ok(()),
-            Ok(Some(request)) => print(&reply(&request), out).map_err(failed)?,
-            Err(Fault::TooLong) => return writeln!(out, "too long").map_err(failed),
-            Err(Fault::CutShort) => return writeln!(out, "cut short").map_err(failed),
-            Err(Fault::UnknownCall(call)) => return Err(format!("no call has the number {call}")),
-            Err(Fault::Io(error)) => return Err(error.to_string()),
-        }
-    }
-}
-
-/// The first lines of an answer, shortened for reading.
-fn shortened(answer: &[u8]) -> String {
-    let text = String::from_utf8_lossy(answer);
-    let line = |line: &str| line.chars().take(300).collect::<String>();
-    text.lines().take(4).map(line).collect::<Vec<String>>().join("\n  ")
-}
-
-/// The first request that other answers answer in another way than this program.
-pub fn first_difference(input: &mut impl Read, mut theirs: &[u8]) -> Option<String> {
-    let mut number = 0;
-    while let Ok(Some(request)) = read(input) {
-        let mut ours = Vec::new();
-        print(&reply(&request), &mut ours).expect("memory takes all");
-        if !theirs.starts_with(&ours) {
-            let asked: String = format!("{request:?}").chars().take(6_000).collect();
-            let (ours, theirs) = (shortened(&ours), shortened(theirs));
-            return Some(format!("request {number}: {asked}\nhere:\n  {ours}\nthere:\n  {theirs}"));
-        }
-        theirs = &theirs[ours.len()..];
-        number += 1;
-    }
-    None
 }

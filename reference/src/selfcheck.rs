@@ -1,9 +1,9 @@
 //! Checks of this program on itself: the document's figures, and the CNF against the meaning.
 
+use crate::answers::{self, judge_problem_refutation};
 use crate::make::{self, shapes};
 use crate::problem::{check, Answer, Problem};
 use crate::random::Random;
-use crate::requests::{self, judge_problem_refutation};
 use crate::{cnf, job, models, refutation, splitting, witness};
 
 const T_TEXT: &str = "p cnf 6 12\n1 0\n-2 0\n-3 -2 -2 0\n-3 2 2 0\n-4 2 0\n4 -2 0\n-5 4 0\n5 -4 0\n\
@@ -113,7 +113,7 @@ fn requests_reach_all(tally: &mut Tally, seed: u64) {
     for (kind, count) in [("cnf", 250), ("problem", 1_000), ("witness", 20), ("refute", 20)] {
         made.extend(make::requests(seed, kind, count).expect("a kind"));
     }
-    let times = requests::tally(&made);
+    let times = answers::tally(&made);
     for call in 1..=5 {
         let found: Vec<u32> = times.keys().filter(|key| key.0 == call).map(|key| key.1).collect();
         let wanted = ANSWERS[call as usize - 1];

@@ -1,5 +1,5 @@
 -- Judges that are lazy or make their answers up do not meet the promise: for each an input, and what it answers there. Assumes nothing.
-use mathlib.Core.Path.{_≡_, refl, ap}
+use mathlib.Core.Path.{_≡_, refl}
 use mathlib.Core.List.{List, [], _∷_}
 use Prim.Native.Nat.{ℕ, _+_}
 use native.Mathlib.Omega.{arith}
@@ -9,7 +9,8 @@ use Rattle.clauses.specs.Limits.{variables-limit}
 use Rattle.clauses.specs.Answers.{Answer}
 use Rattle.clauses.specs.CnfWords.{cnf-checks}
 use Rattle.clauses.specs.Refutations.{judge-cnf, judge-clauses, judge-steps, refutation-checks, area-checks, step-accepted}
-use Rattle.clauses.specs.Cases.{T-cnf}
+use Rattle.clauses.specs.Cases.{T-cnf, T-steps, T-other-steps}
+use Rattle.clauses.proofs.Answers.{number-of, place-of}
 use Rattle.refutation.specs.Promise.{Judged, CnfCounted, StepsCounted, answer-of}
 use Rattle.refutation.specs.declared.Judgement.{Judgement}
 use Rattle.refutation.specs.declared.Judgement.the-variants.{Yes, BadCnf, BadRefutation, AreaTooSmall, StepRefused, NotClosed}
@@ -40,11 +41,11 @@ laid-down x = judge-cnf (x .variables) (x .cnf) (x .refutation) (length (x .numb
 module _ (x : Input) (r : Judgement) where
   pub wrong-number : ¬ (answer-of r .number ≡ laid-down x .number) → Wrong x r
   unfolding laid-down
-  wrong-number h numbers′ clauses′ j = h (ap (λ (a : Answer). a .number) (j .answered))
+  wrong-number h numbers′ clauses′ j = h (number-of (j .answered))
 
   pub wrong-place : ¬ (answer-of r .place ≡ laid-down x .place) → Wrong x r
   unfolding laid-down
-  wrong-place h numbers′ clauses′ j = h (ap (λ (a : Answer). a .place) (j .answered))
+  wrong-place h numbers′ clauses′ j = h (place-of (j .answered))
 
 -- ════════ Inputs ════════
 
@@ -52,19 +53,11 @@ module _ (x : Input) (r : Judgement) where
 abbrev pub over-T : List ℤ → ℕ → ℕ → Input
 over-T refutation m n = record { variables = 6; cnf = T-cnf; refutation = refutation; numbers = replicate m 9; clauses = replicate n 9 }
 
--- 0 2 12 5 0
-abbrev pub T-words : List ℤ
-T-words = pos 0 ∷ pos 2 ∷ pos 12 ∷ pos 5 ∷ pos 0 ∷ []
-
--- 0 12 5 0
-abbrev pub T-other-words : List ℤ
-T-other-words = pos 0 ∷ pos 12 ∷ pos 5 ∷ pos 0 ∷ []
-
 abbrev pub T : Input
-T = over-T T-words 7 13
+T = over-T T-steps 7 13
 
 abbrev pub T-other : Input
-T-other = over-T T-other-words 7 13
+T-other = over-T T-other-steps 7 13
 
 -- ════════ Refuses all, accepts all ════════
 
@@ -133,7 +126,7 @@ made-up-length-breaks i h = wrong-place cut-hints (BadRefutation i) h
 
 -- T with 6 words by numbers, where 7 are needed.
 abbrev pub few-numbers : Input
-few-numbers = over-T T-words 6 13
+few-numbers = over-T T-steps 6 13
 
 pub made-up-numbers-need-breaks : (n : ℕ) → ¬ (n ≡ 7) → Wrong few-numbers (AreaTooSmall n)
 unfolding laid-down
@@ -141,7 +134,7 @@ made-up-numbers-need-breaks n h = wrong-place few-numbers (AreaTooSmall n) h
 
 -- T with 12 words by clauses, where 13 are needed.
 abbrev pub few-clauses : Input
-few-clauses = over-T T-words 7 12
+few-clauses = over-T T-steps 7 12
 
 pub made-up-clauses-need-breaks : (n : ℕ) → ¬ (n ≡ 13) → Wrong few-clauses (AreaTooSmall n)
 unfolding laid-down
@@ -209,7 +202,7 @@ room-before-words-breaks n = wrong-number bad-hint-no-room (AreaTooSmall n) (λ 
 
 -- T with both work areas too small.
 abbrev pub no-room : Input
-no-room = over-T T-words 6 12
+no-room = over-T T-steps 6 12
 
 pub clauses-area-first-breaks : Wrong no-room (AreaTooSmall 13)
 unfolding laid-down
@@ -226,31 +219,31 @@ closing-before-steps-breaks n = wrong-number refused-and-open (NotClosed n) (λ 
 -- ════════ Counts that are made up ════════
 
 -- T's refutation is one step.
-pub made-up-count-breaks : (n : ℕ) → ¬ (n ≡ 1) → ¬ (StepsCounted 6 12 T-words (Count n))
+pub made-up-count-breaks : (n : ℕ) → ¬ (n ≡ 1) → ¬ (StepsCounted 6 12 T-steps (Count n))
 unfolding refutation-checks
-made-up-count-breaks n h e = h (ap (λ (a : Answer). a .place) e)
+made-up-count-breaks n h e = h (place-of e)
 
-pub refuses-right-words-breaks : (i : ℕ) → ¬ (StepsCounted 6 12 T-words (BadAt i))
+pub refuses-right-words-breaks : (i : ℕ) → ¬ (StepsCounted 6 12 T-steps (BadAt i))
 unfolding refutation-checks
-refuses-right-words-breaks i e = let z : _≡_ {A = ℕ} 11 0 = ap (λ (a : Answer). a .number) e in omega arith
+refuses-right-words-breaks i e = let z : _≡_ {A = ℕ} 11 0 = number-of e in omega arith
 
 pub made-up-bad-place-breaks : (i : ℕ) → ¬ (i ≡ 2) → ¬ (StepsCounted 6 12 (bad-hint .refutation) (BadAt i))
 unfolding refutation-checks
-made-up-bad-place-breaks i h e = h (ap (λ (a : Answer). a .place) e)
+made-up-bad-place-breaks i h e = h (place-of e)
 
 pub counts-bad-words-breaks : (n : ℕ) → ¬ (StepsCounted 6 12 (bad-hint .refutation) (Count n))
 unfolding refutation-checks
-counts-bad-words-breaks n e = let z : _≡_ {A = ℕ} 0 11 = ap (λ (a : Answer). a .number) e in omega arith
+counts-bad-words-breaks n e = let z : _≡_ {A = ℕ} 0 11 = number-of e in omega arith
 
 pub length-counted-for-bad-word-breaks : ¬ (StepsCounted 6 12 (bad-and-cut .refutation) (BadAt 2))
 unfolding refutation-checks
-length-counted-for-bad-word-breaks e = let z : _≡_ {A = ℕ} 2 1 = ap (λ (a : Answer). a .place) e in omega arith
+length-counted-for-bad-word-breaks e = let z : _≡_ {A = ℕ} 2 1 = place-of e in omega arith
 
 -- T's CNF is 12 clauses.
 pub made-up-clause-count-breaks : (n : ℕ) → ¬ (n ≡ 12) → ¬ (CnfCounted 6 T-cnf (Count n))
 unfolding cnf-checks variables-limit
-made-up-clause-count-breaks n h e = h (ap (λ (a : Answer). a .place) e)
+made-up-clause-count-breaks n h e = h (place-of e)
 
 pub made-up-bad-clause-place-breaks : (i : ℕ) → ¬ (i ≡ 2) → ¬ (CnfCounted 6 (bad-cnf-literal .cnf) (BadAt i))
 unfolding cnf-checks variables-limit
-made-up-bad-clause-place-breaks i h e = h (ap (λ (a : Answer). a .place) e)
+made-up-bad-clause-place-breaks i h e = h (place-of e)

@@ -9,9 +9,10 @@ use lib.Seq.{getD-append-add, getD-drop}
 use Rattle.clauses.specs.Answers.{Answer}
 use Rattle.clauses.specs.CnfWords.{clauses-of}
 use Rattle.clauses.specs.Refutations.{steps-of, numbers-area, clauses-area, judged, area-after}
+use Rattle.clauses.specs.Cases.{T-steps, T-other-steps}
 use Rattle.refutation.specs.Promise.{answer-of}
 use Rattle.refutation.specs.declared.Judgement.{Judgement}
-use Rattle.refutation.proofs.Lazy.{Input, Breaks, laid-down, over-T, T-words, T-other-words, T, T-other, T-open, bad-hint, few-numbers, few-clauses, bad-cnf-literal}
+use Rattle.refutation.proofs.Lazy.{Input, Breaks, laid-down, over-T, T, T-other, T-open, bad-hint, few-numbers, few-clauses, bad-cnf-literal}
 
 -- ════════ An area after the call ════════
 
@@ -99,10 +100,10 @@ module _ (r : Judgement) (numbers′ clauses′ : List ℕ) (i : ℕ) where
 
 -- T, and T's other refutation, with two words more in each area.
 abbrev pub T-roomy : Input
-T-roomy = over-T T-words 9 15
+T-roomy = over-T T-steps 9 15
 
 abbrev pub T-other-roomy : Input
-T-other-roomy = over-T T-other-words 9 15
+T-other-roomy = over-T T-other-steps 9 15
 
 module _ (r : Judgement) (numbers′ clauses′ : List ℕ) (i : ℕ) where
   pub number-past-at-yes-breaks : 7 ≤ i → i < 9 → ¬ (getD numbers′ i 0 ≡ 9) → Breaks T-roomy r numbers′ clauses′

@@ -5,6 +5,7 @@ pub mod ClauseCount
 pub mod StepCount
 pub mod ClausePlaces
 pub mod Marks
+pub mod SettingFalse
 pub mod Finding
 pub mod Known
 pub mod HintsTaken

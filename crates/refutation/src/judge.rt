@@ -61,10 +61,12 @@ pub fn judge<'a>(
     };
     let numbers = variables as usize;
     if by_numbers.len() <= numbers {
-        return Judgement::AreaTooSmall(numbers + 1);
+        let needed = numbers + 1;
+        return Judgement::AreaTooSmall(needed);
     }
-    if by_clauses.len() < clauses + steps {
-        return Judgement::AreaTooSmall(clauses + steps);
+    let needed = clauses + steps;
+    if by_clauses.len() < needed {
+        return Judgement::AreaTooSmall(needed);
     }
     judge_counted(
         numbers,

@@ -12,3 +12,4 @@ pub mod Checking
 pub mod Judging
 pub mod Unique
 pub mod Lazy
+pub mod LazyRuns

@@ -69,8 +69,8 @@ steps-right c =
     steps-counted (start (counting c) .args .variables) (clauses c) (start (counting c) .args .refutation .now)
     (ap (counted-answer bad-refutation) (sym (c .before .n2 .given .1)) ∙ c .before .before .before .count-steps .ensures)
 
-add-t19 : tie.Need-add-t19
-add-t19 c = search needs
+add-needed : tie.Need-add-needed
+add-needed c = search needs
 
 returns-3 : tie.Need-returns-3
 returns-3 c =
@@ -84,11 +84,8 @@ both-fit c =
     let s = start (counting c) in
     omega (arith, s .good, clauses-counted (counting c) .1, steps-right c .1, clauses-fewer (s .args .cnf .now), steps-fewer (s .args .refutation .now))
 
-add-if2 : tie.Need-add-if2
-add-if2 c = omega (arith, both-fit (c .before))
-
-add-t21 : tie.Need-add-t21
-add-t21 c = omega (arith, both-fit (c .before .before))
+add-needed-2 : tie.Need-add-needed-2
+add-needed-2 c = omega (arith, both-fit (c .before))
 
 returns-4 : tie.Need-returns-4
 returns-4 c =
@@ -131,10 +128,9 @@ judge-spec =
     enum-known-n-2
     enum-known-i-2
     returns-2
-    add-t19
+    add-needed
     returns-3
-    add-if2
-    add-t21
+    add-needed-2
     returns-4
     judge-counted-requires
     same-length

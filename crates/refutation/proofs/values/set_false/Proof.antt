@@ -7,7 +7,8 @@ use native.Mathlib.Omega.{arith}
 use borrow.Author.Needs.{sfits-of}
 use lib.ListN.{length, take}
 use Rattle.clauses.proofs.Signs.{word, word-is}
-use Rattle.refutation.proofs.Marks.{At, literal-at, SetFalse, set-false-none, set-false-turn, set-false-stop, set-false-all, literal-fits}
+use Rattle.refutation.proofs.Marks.{At, literal-at, literal-fits}
+use Rattle.refutation.proofs.SettingFalse.{SetFalse, set-false-none, set-false-turn, set-false-stop, set-false-all}
 use Rattle.refutation.proofs.values.set_false.Statement.{statement}
 use Rattle.refutation.proofs.values.set_false.Tie as tie
 
