@@ -2,6 +2,7 @@
 use crate::answers::Answer;
 use crate::input::Fault;
 use libc::STDOUT_FILENO;
+use refutation::literals::variable;
 ghost use Prim.Native.Nat.{_<_};
 
 const OUT: usize = 4096;
@@ -69,24 +70,15 @@ fn put_area(area: &[u64], at: usize, out: &mut [u8; OUT]) -> usize
     put_byte(b'\n', next, out)
 }
 
-// A word without its sign. The negation of the least i32 fits an i64.
-fn magnitude(w: i32) -> u64 {
-    if w < 0 {
-        (-(w as i64)) as u64
-    } else {
-        w as u64
-    }
-}
-
 fn put_word(w: i32, at: usize, out: &mut [u8; OUT]) -> usize
     requires { ⌜ at < 4096 ⌝ }
     ensures { λ r. ⌜ r < 4096 ⌝ }
 {
     if w < 0 {
         let signed = put_byte(b'-', at, out);
-        return put_number(magnitude(w), signed, out);
+        return put_number(variable(w) as u64, signed, out);
     }
-    put_number(magnitude(w), at, out)
+    put_number(variable(w) as u64, at, out)
 }
 
 // A line with the words of a CNF room.

@@ -25,9 +25,11 @@ use Rattle.encoder.specs.Promise.{EncodedAs, CountedAs}
 use Rattle.witness.specs.declared.Judgement.{Judgement as WitnessJudgement}
 use Rattle.witness.specs.declared.Judgement.the-variants as witness-judge
 use Rattle.witness.specs.Promise.{answer-of}
-use Rattle.checker.specs.declared.{job.Job.Job, text.Printed.Printed, Refuted.Refuted}
+use Rattle.job_file.specs.declared.{job.Job.Job, text.Printed.Printed}
+use Rattle.job_file.specs.Promise.{JobRead, Prints}
+use Rattle.checker.specs.declared.{Refuted.Refuted}
 use Rattle.checker.specs.declared.Refuted.the-variants as problem-judge
-use Rattle.checker.specs.{Promise.JobRead, Promise.Prints, Refutation.JudgedAs}
+use Rattle.checker.specs.{Refutation.JudgedAs}
 
 -- ════════ Demand 1 ════════
 
@@ -69,11 +71,11 @@ refuted-unique = Rattle.checker.proofs.RefutedUnique.refuted-unique
 
 -- The job file.
 pub job-unique : (bs : List ℕ) (j j′ : Job) → JobRead bs j → JobRead bs j′ → j ≡ j′
-job-unique = Rattle.checker.proofs.Unique.job-unique
+job-unique = Rattle.job_file.proofs.Unique.job-unique
 
 -- What is printed: of a job, of a CNF, of a refusal.
 pub printed-unique : (text out : List ℕ) {r r′ : Printed} {p p′ : List ℕ} → Prints text out r p → Prints text out r′ p′ → (r ≡ r′) × (p ≡ p′)
-printed-unique = Rattle.checker.proofs.Unique.printed-unique
+printed-unique = Rattle.job_file.proofs.Unique.printed-unique
 
 -- The readers of a problem's parts promise equations; of one node:
 pub node-unique : (r r′ : Node) → node-read r ≡ node-read r′ → r ≡ r′

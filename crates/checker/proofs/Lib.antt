@@ -1,16 +1,6 @@
--- The plain mathematics of the crate's proofs.
-pub mod Buffers
-pub mod JobBytes
-pub mod Decimals
-pub mod Printing
-pub mod FlatText
-pub mod Sizes
+-- The plain mathematics of the crate's proofs, and the demands on one page.
 pub mod ProblemRefutation
 pub mod RefutedUnique
 pub mod LazyProblem
-pub mod Unique
-pub mod JobText
-pub mod LazyText
-pub mod TextRoom
 pub mod CallsMean
 pub mod Demands

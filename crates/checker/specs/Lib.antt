@@ -1,4 +1,2 @@
--- What reading a job file, printing and judging a refutation promise.
-pub mod Text
-pub mod Promise
+-- What judging a refutation of a problem's CNF promises.
 pub mod Refutation

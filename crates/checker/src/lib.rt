@@ -1,9 +1,5 @@
-// The program's parts: a job file read, a refutation judged, and what is printed.
-pub mod job;
+// Judges a refutation of a problem's CNF. The demands stand as theorems in proofs/Demands.antt.
 pub mod judge;
-pub mod print;
-pub mod put;
-pub mod text;
 
 use problem::Refusal;
 

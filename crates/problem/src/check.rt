@@ -31,7 +31,7 @@ ghost use Rattle.meaning.specs.Check.{known-version, opening-checks, latch-chec
 ghost use Rattle.problem.specs.Promise.{CheckedAs, AnsweredBy, Within, InLimits, Opened};
 
 // The version that document 01 describes.
-const VERSION: u32 = 1;
+pub const VERSION: u32 = 1;
 
 // "reset over 2" is refused.
 const LARGEST_RESET: u32 = 2;

@@ -1,9 +1,9 @@
 -- `print_cnf::text_of` meets its contract: the room holds every text, so that no answer is short. Assumes nothing.
 use borrow.Author.Needs.{needs}
 use Rattle.meaning.specs.Limits.{program-room}
-use Rattle.checker.specs.Text.{text-limit}
-use Rattle.checker.proofs.Printing.{text-first, bytes-within}
-use Rattle.checker.proofs.TextRoom.{never-short}
+use Rattle.job_file.specs.Text.{text-limit}
+use Rattle.job_file.proofs.Printing.{text-first, bytes-within}
+use Rattle.job_file.proofs.TextRoom.{never-short}
 use Rattle.print_cnf.proofs.text_of.Statement.{statement}
 use Rattle.print_cnf.proofs.text_of.Tie as tie
 

@@ -1,0 +1,98 @@
+-- `job_file::put::put_line` meets its contract: each part is put after those before it. Assumes nothing.
+use mathlib.Core.List.{List, _++_}
+use Prim.Native.Nat.{ℕ}
+use native.Mathlib.Omega.{arith}
+use Rattle.meaning.specs.JobFile.{decimal}
+use Rattle.job_file.specs.Text.{Put}
+use Rattle.job_file.proofs.Buffers.{room-next, put-then, inside-after, put-closed, closed-length}
+use Rattle.job_file.proofs.Printing.{LineFits, line-fits}
+use Rattle.job_file.proofs.put.put_line.Statement.{statement}
+use Rattle.job_file.proofs.put.put_line.Tie as tie
+
+-- Each part fits.
+fits : (c : tie.Start) → LineFits (c .args .opening .now) (c .args .first) (c .args .between .now) (c .args .second) (c .args .out .now)
+fits c = line-fits _ _ _ _ _ (c .pre)
+
+-- Where each call was made from.
+abbrev start1 : tie.After-put-bytes → tie.Start
+start1 c = c .before .before .before .before .before
+
+abbrev start2 : tie.After-put-number → tie.Start
+start2 c = start1 (c .before .before .before .before)
+
+abbrev start3 : tie.After-put-bytes2 → tie.Start
+start3 c = start2 (c .before .before .before .before)
+
+abbrev start4 : tie.After-put-number2 → tie.Start
+start4 c = start3 (c .before .before .before .before)
+
+-- The line up to each call's text.
+abbrev to-first : tie.Start → List ℕ
+to-first c = c .args .opening .now ++ decimal (c .args .first)
+
+abbrev to-between : tie.Start → List ℕ
+to-between c = to-first c ++ c .args .between .now
+
+abbrev to-second : tie.Start → List ℕ
+to-second c = to-between c ++ decimal (c .args .second)
+
+opened : (c : tie.After-put-bytes)
+    → Put (start1 c .args .opening .now) 0 (start1 c .args .out .now) (c .put-bytes .result) (c .put-bytes .last .1 .1 .0)
+opened c = c .put-bytes .ensures
+
+one : (c : tie.After-put-number)
+    → Put (to-first (start2 c)) 0 (start2 c .args .out .now) (c .put-number .result) (c .put-number .last .1 .1 .0)
+one c = put-then (fits (start2 c) .to-opening) (opened (c .before .before .before .before)) (c .put-number .ensures)
+
+parted : (c : tie.After-put-bytes2)
+    → Put (to-between (start3 c)) 0 (start3 c .args .out .now) (c .put-bytes2 .result) (c .put-bytes2 .last .1 .1 .0)
+parted c = put-then (fits (start3 c) .to-first) (one (c .before .before .before .before)) (c .put-bytes2 .ensures)
+
+two : (c : tie.After-put-number2)
+    → Put (to-second (start4 c)) 0 (start4 c .args .out .now) (c .put-number2 .result) (c .put-number2 .last .1 .1 .0)
+two c = put-then (fits (start4 c) .to-between) (parted (c .before .before .before .before)) (c .put-number2 .ensures)
+
+put-bytes-requires : tie.Need-put-bytes-requires
+put-bytes-requires c κs = fits (c .before .before .before .before) .to-opening
+
+put-number-requires : tie.Need-put-number-requires
+put-number-requires c κs =
+    let before = c .before .before .before in
+    room-next (decimal (start1 before .args .first)) (fits (start1 before) .to-first) (opened before)
+
+put-bytes-requires-2 : tie.Need-put-bytes-requires-2
+put-bytes-requires-2 c κs =
+    let before = c .before .before .before in
+    room-next (start2 before .args .between .now) (fits (start2 before) .to-between) (one before)
+
+put-number-requires-2 : tie.Need-put-number-requires-2
+put-number-requires-2 c κs =
+    let before = c .before .before .before in
+    room-next (decimal (start3 before .args .second)) (fits (start3 before) .to-second) (parted before)
+
+slice-write-out : tie.Need-slice-write-out
+slice-write-out c = inside-after (fits (start4 (c .before .before)) .to-end) (two (c .before .before))
+
+add-result : tie.Need-add-result
+add-result c =
+    let start = start4 (c .before .before) in
+    omega (arith, fits start .to-end, two (c .before .before) .after, start .good)
+
+same-length : tie.Need-same-length
+same-length c = closed-length (fits (start4 (c .before .before)) .to-end) (two (c .before .before)) 10
+
+returns : tie.Need-returns
+returns c = put-closed (fits (start4 (c .before .before)) .to-end) (two (c .before .before)) 10
+
+pub put-line-spec : {M : Type 1} → statement M
+put-line-spec =
+    tie.close
+    (tie.spec
+    put-bytes-requires
+    put-number-requires
+    put-bytes-requires-2
+    put-number-requires-2
+    slice-write-out
+    add-result
+    same-length
+    returns)

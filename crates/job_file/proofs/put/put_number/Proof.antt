@@ -1,0 +1,101 @@
+-- `job_file::put::put_number` meets its contract. The loop's invariant: with the digits of `rest` put, the buffer is what it is to be.
+-- Assumes nothing.
+use mathlib.Core.Path.{_≡_, refl, _∙_}
+use Prim.Native.Nat.{_+_, _≤_}
+use native.Mathlib.Omega.{arith}
+use lib.ListN.{length, length-set}
+use Rattle.meaning.specs.JobFile.{decimal}
+use Rattle.job_file.specs.Text.{placed}
+use Rattle.job_file.proofs.Decimals.{length-one, length-more}
+use Rattle.job_file.proofs.Printing.{first-digit-placed, last-digit-placed}
+use Rattle.job_file.proofs.put.put_number.Statement.{statement}
+use Rattle.job_file.proofs.put.put_number.Tie as tie
+
+abbrev Inv-loop : tie.InvT-loop
+Inv-loop n at out₀ end i₀ rest₀ out i rest =
+    (rest ≤ n)
+    × (i ≡ at + length (decimal rest))
+    × (length (decimal rest) ≤ length (decimal n))
+    × (length out ≡ length out₀)
+    × (placed (decimal rest) at out ≡ placed (decimal n) at out₀)
+
+abbrev μ-loop : tie.MeasureT-loop
+μ-loop n at out₀ end i₀ rest₀ out i rest = rest
+
+digits-requires : tie.Need-digits-requires Inv-loop μ-loop
+digits-requires c κs = tt
+
+add-end : tie.Need-add-end Inv-loop μ-loop
+add-end c = omega arith
+
+loop-holds : tie.Need-loop-holds Inv-loop μ-loop
+loop-holds c = (omega arith, omega arith, omega arith, refl, refl)
+
+sub-i : tie.Need-sub-i Inv-loop μ-loop
+sub-i c = omega (arith, length-more _ (c .loop-test .taken))
+
+cast-out : tie.Need-cast-out Inv-loop μ-loop
+cast-out c = omega arith
+
+add-out : tie.Need-add-out Inv-loop μ-loop
+add-out c = omega arith
+
+slice-write-out : tie.Need-slice-write-out Inv-loop μ-loop
+slice-write-out c = omega (arith, length-more _ (c .loop-test .taken))
+
+loop-less : tie.Need-loop-less Inv-loop μ-loop
+loop-less c = omega arith
+
+loop-again : tie.Need-loop-again Inv-loop μ-loop
+loop-again c =
+    let now = c .before .loop in
+    let args = c .before .before .before .before .args in
+    let shorter = length-more (now .rest) (c .loop-test .taken) in (
+      omega arith,
+      omega (arith, shorter),
+      omega (arith, shorter),
+      simp length-set (now .inv .3),
+      rw (now .inv .1) (last-digit-placed (now .rest) (args .at) (now .out) (omega arith) (c .loop-test .taken)) ∙ now .inv .4,
+    )
+
+cast-out-2 : tie.Need-cast-out-2 Inv-loop μ-loop
+cast-out-2 c = omega arith
+
+add-out-2 : tie.Need-add-out-2 Inv-loop μ-loop
+add-out-2 c = omega arith
+
+slice-write-out-2 : tie.Need-slice-write-out-2 Inv-loop μ-loop
+slice-write-out-2 c = omega (arith, length-one _ (c .loop-test .left))
+
+same-length : tie.Need-same-length Inv-loop μ-loop
+same-length c = simp length-set (c .before .loop .inv .3)
+
+returns : tie.Need-returns Inv-loop μ-loop
+returns c =
+    let now = c .before .loop in
+    let args = c .before .before .before .before .args in
+    record {
+      after = omega arith;
+      held = first-digit-placed (now .rest) (args .at) (now .out) (omega arith) (c .loop-test .left) ∙ now .inv .4;
+    }
+
+pub put-number-spec : {M : Type 1} → statement M
+put-number-spec =
+    tie.close
+    (tie.spec
+    Inv-loop
+    μ-loop
+    digits-requires
+    add-end
+    loop-holds
+    sub-i
+    cast-out
+    add-out
+    slice-write-out
+    loop-less
+    loop-again
+    cast-out-2
+    add-out-2
+    slice-write-out-2
+    same-length
+    returns)

@@ -1,0 +1,3 @@
+-- What reading a job file and printing promise.
+pub mod Text
+pub mod Promise
