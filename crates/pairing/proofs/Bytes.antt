@@ -14,8 +14,9 @@ use Rattle.clauses.proofs.Satisfaction.{both-true, eqb-self, all-of-append, all
 use Rattle.meaning.specs.Problem.{Problem, latch-variable}
 use Rattle.meaning.specs.Bounded.{prefix, lasso}
 use Rattle.meaning.specs.Witnesses.{witness-length, byte, shape-of, shape, bits, first-latches, inputs-at}
+use Rattle.meaning.specs.Cnf.{positions}
 use Rattle.meaning.proofs.Numbers.{length-map-numbers, getD-map-numbers, all-of-each}
-use Rattle.pairing.specs.ModelLaws.{Reading, all-positions}
+use Rattle.pairing.specs.ModelLaws.{Reading}
 use Rattle.pairing.proofs.Loops.{shifted}
 use Rattle.pairing.proofs.Blocks.{length-each, cut, cut-each, cut-end}
 use Rattle.pairing.specs.Bytes.{first-chosen, chosen-of, bit-byte, latch-bytes, input-bytes, bytes-of-reading}
@@ -120,10 +121,10 @@ module _ (p : Problem) (r : Reading) where
   unfolding bytes-of-reading
   bytes-bits zero l h = absurd (not-suc-le-zero l)
   bytes-bits (suc i) l h =
-      leb-true _ 1 (all-of-at is-bit (latch-bytes p r ++ each (all-positions p) (input-bytes p r)) i 0
+      leb-true _ 1 (all-of-at is-bit (latch-bytes p r ++ each (positions p) (input-bytes p r)) i 0
       (rw all-of-append
       (both-true (bytes-are-bits (λ j. r .circuit 0 (latch-variable p j)) (numbers 0 (length (p .latches))))
-      (all-of-each is-bit (input-bytes p r) (all-positions p) (λ t. bytes-are-bits (λ j. r .circuit t (suc j)) (numbers 0 (p .inputs))))))
+      (all-of-each is-bit (input-bytes p r) (positions p) (λ t. bytes-are-bits (λ j. r .circuit t (suc j)) (numbers 0 (p .inputs))))))
       (le-of-suc-le-suc h))
 
   pub bytes-latches : first-latches p (bytes-of-reading p r) ≡ map (λ i. r .circuit 0 (latch-variable p i)) (numbers 0 (length (p .latches)))
@@ -197,7 +198,7 @@ bytes-back p r (b ∷ bs) l start small chosen latches inputs =
         let place : 1 + L + I * t ≡ suc (L + I * t) = omega arith in
         rw place at (inputs t i (omega arith) q))
 
-    inputs-back : each (all-positions p) (input-bytes p r) ≡ drop L bs
+    inputs-back : each (positions p) (input-bytes p r) ≡ drop L bs
     inputs-back =
         cut-each bs (input-bytes p r) I L 0 (p .bound + 1) (λ t h. rw (zero-add, mul-comm) (part-back t h))
         ∙ cut-end bs L ((p .bound + 1) * I) (omega (arith, mul-comm (p .bound + 1) I))

@@ -13,9 +13,10 @@ use Rattle.clauses.proofs.Satisfaction.{both-true, first-true, second-true, not
 use Rattle.meaning.specs.Problem.{Problem}
 use Rattle.meaning.specs.Bounded.{Shape, prefix, lasso}
 use Rattle.meaning.specs.Witnesses.{shape}
+use Rattle.meaning.specs.Cnf.{positions}
 use Rattle.meaning.proofs.Numbers.{member-of-numbers, numbers-bounds}
 use Rattle.pairing.specs.NodeLaws.{E-value}
-use Rattle.pairing.specs.ModelLaws.{Reading, all-positions}
+use Rattle.pairing.specs.ModelLaws.{Reading}
 use Rattle.pairing.specs.Bytes.{chosen-of, bytes-of-reading}
 use Rattle.pairing.proofs.NodeValues.{StartWithin}
 use Rattle.pairing.proofs.Bytes.{bytes-prefix, bytes-lasso}
@@ -68,9 +69,9 @@ module _ (p : Problem) (r : Reading) (single : (l m : ℕ) → l < m → m ≤ p
 -- Of one node's end and second pass: its law by the shape, and its clauses' by what is chosen.
 module _ (p : Problem) (chosen Q : ℕ → Bool) (e : Bool) where
   pub end-by-shape : (s : Shape) → StartWithin s p → Chooses p chosen s → ((l : ℕ) → l ≤ p .bound → chosen l ≡ true → e ≡ Q l)
-      → (e ≡ true → some-of chosen (all-positions p) ≡ true) → e ≡ E-value s Q
+      → (e ≡ true → some-of chosen (positions p) ≡ true) → e ≡ E-value s Q
   end-by-shape prefix w same at-chosen closed = false-if-not-true e (λ q.
-      let c = some-of-witness chosen (all-positions p) (closed q) in
+      let c = some-of-witness chosen (positions p) (closed q) in
       not-both (c .2) (same (c .0) (omega (arith, numbers-bounds 0 (p .bound + 1) (c .1) .1))))
   end-by-shape (lasso l) w same at-chosen closed = at-chosen l w (same l w ∙ eqb-self l)
 
@@ -79,7 +80,7 @@ module _ (p : Problem) (chosen Q : ℕ → Bool) (e : Bool) where
   end-at-chosen (lasso m) same law l h c = rw (eqb-true l m (sym (same l h) ∙ c)) law
 
   pub end-closed : (s : Shape) → StartWithin s p → Chooses p chosen s → e ≡ E-value s Q → e ≡ true
-      → some-of chosen (all-positions p) ≡ true
+      → some-of chosen (positions p) ≡ true
   end-closed prefix w same law q = absurd (not-both q law)
   end-closed (lasso m) w same law q =
       some-of-member chosen (member-of-numbers 0 (p .bound + 1) m zero-le (omega arith)) (same m w ∙ eqb-self m)

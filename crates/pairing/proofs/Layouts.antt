@@ -12,10 +12,10 @@ use lib.Seq.{drop-cons}
 use Rattle.clauses.specs.Lists.{numbers, each}
 use Rattle.clauses.specs.Clauses.{Assignment, literal-true}
 use Rattle.meaning.specs.Problem.{Problem, W}
-use Rattle.meaning.specs.Cnf.{node-variables, variables}
+use Rattle.meaning.specs.Cnf.{node-variables, variables, positions}
 use Rattle.meaning.proofs.Numbers.{length-map-numbers, getD-map-numbers, getD-map-numbers-from}
 use Rattle.meaning.proofs.Counts.{last-of}
-use Rattle.pairing.specs.ModelLaws.{Reading, reading, all-positions}
+use Rattle.pairing.specs.ModelLaws.{Reading, reading}
 use Rattle.pairing.specs.Layout.{circuit-values, chosen-values, node-values, layout, Agree}
 use Rattle.pairing.proofs.Blocks.{getD-first, getD-second, length-each, getD-each, map-numbers-same, each-numbers-same, cut, cut-one, cut-end, cut-cut, cut-map, cut-each}
 
@@ -51,16 +51,16 @@ module _ (p : Problem) (r : Reading) where
   length-circuit-values : (t : ℕ) → length (circuit-values p r t) ≡ W p
   length-circuit-values t = length-map-numbers (r .circuit t) 1 (W p)
 
-  length-circuits : length (each (all-positions p) (circuit-values p r)) ≡ steps p * W p
+  length-circuits : length (each (positions p) (circuit-values p r)) ≡ steps p * W p
   length-circuits = length-each (circuit-values p r) (W p) length-circuit-values 0 (steps p)
 
   length-chosen-values : length (chosen-values p r) ≡ steps p
   length-chosen-values = length-map-numbers (r .chosen) 0 (steps p)
 
-  length-P-values : (n : ℕ) → length (map (r .P n) (all-positions p)) ≡ steps p
+  length-P-values : (n : ℕ) → length (map (r .P n) (positions p)) ≡ steps p
   length-P-values n = length-map-numbers (r .P n) 0 (steps p)
 
-  length-Q-values : (n : ℕ) → length (map (r .Q n) (all-positions p)) ≡ steps p
+  length-Q-values : (n : ℕ) → length (map (r .Q n) (positions p)) ≡ steps p
   length-Q-values n = length-map-numbers (r .Q n) 0 (steps p)
 
   length-node-values : (n : ℕ) → length (node-values p r n) ≡ node-width p
@@ -195,10 +195,10 @@ nodes-place p = chosen-place p + steps p
 
 -- The values of node n, of which the first stands at x.
 module _ (p : Problem) (a : Assignment) (n x : ℕ) (first : node-variables p n ≡ suc x) (fits : x + node-width p ≤ length a) where
-  cut-P : map (reading p a .P n) (all-positions p) ≡ cut a x (steps p)
+  cut-P : map (reading p a .P n) (positions p) ≡ cut a x (steps p)
   cut-P = cut-map a (reading p a .P n) false x 0 (steps p) (omega arith) (λ i m. rw (zero-add, first, suc-add))
 
-  cut-Q : map (reading p a .Q n) (all-positions p) ≡ cut a (x + steps p) (steps p)
+  cut-Q : map (reading p a .Q n) (positions p) ≡ cut a (x + steps p) (steps p)
   cut-Q = cut-map a (reading p a .Q n) false (x + steps p) 0 (steps p) (omega arith) (λ i m. rw (zero-add, first, suc-add x, suc-add))
 
   cut-E : reading p a .E n ∷ [] ≡ cut a (x + steps p + steps p) 1
@@ -218,7 +218,7 @@ module _ (p : Problem) (a : Assignment) (whole : length a ≡ suc (past-truth p)
       let fits : t * W p + W p ≤ steps p * W p = row-fits t (steps p) (W p) (omega arith) in
       cut-map a (reading p a .circuit t) false (1 + t * W p) 1 (W p) (omega arith) (λ v m. rw (one-add v, place v))
 
-  cut-circuits : each (all-positions p) (circuit-values p (reading p a)) ≡ cut a 1 (steps p * W p)
+  cut-circuits : each (positions p) (circuit-values p (reading p a)) ≡ cut a 1 (steps p * W p)
   cut-circuits = cut-each a (circuit-values p (reading p a)) (W p) 1 0 (steps p) (λ t l. rw zero-add (cut-circuit-values t (omega arith)))
 
   cut-chosen : chosen-values p (reading p a) ≡ cut a (chosen-place p) (steps p)

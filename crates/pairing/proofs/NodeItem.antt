@@ -11,7 +11,7 @@ use Rattle.meaning.specs.Problem.{Problem, Node, node, atom, both, either, next
 use Rattle.meaning.specs.Check.{Proper, NodeProper}
 use Rattle.meaning.specs.Cnf.{true-literal, positions, selector, P-clauses, Q-clauses, E-clauses, E-closed, node-clauses, nodes-item}
 use Rattle.pairing.specs.NodeLaws.{at-next, op-value, Q-value}
-use Rattle.pairing.specs.ModelLaws.{Reading, reading, row, all-positions}
+use Rattle.pairing.specs.ModelLaws.{Reading, reading, row}
 use Rattle.pairing.proofs.Forms.{equal-form-is, and-form-is, or-form-is, until-form-is, release-form-is, equal-where-is, some-where-is}
 use Rattle.pairing.proofs.Readings.{literal-at-reads, selector-reads, P-reads, P-next-reads, Q-reads, Q-next-reads, E-reads, true-reads, false-reads, left-reads}
 use Rattle.pairing.proofs.Items.{append-is, each-below-is, each-up-to-is}
@@ -30,7 +30,7 @@ pub record NodeHolds (p : Problem) (r : Reading) (n : ℕ) : Type 0 where
   pub P-law : (i : ℕ) → i ≤ p .bound → P-equation p r n (node p n) i
   pub Q-law : (i : ℕ) → i ≤ p .bound → Q-equation p r n (node p n) i
   pub E-chosen-law : (l : ℕ) → l ≤ p .bound → r .chosen l ≡ true → r .E n ≡ r .Q n l
-  pub E-closed-law : r .E n ≡ true → some-of (r .chosen) (all-positions p) ≡ true
+  pub E-closed-law : r .E n ≡ true → some-of (r .chosen) (positions p) ≡ true
 
 -- ════════ The clauses of one node ════════
 
@@ -72,7 +72,7 @@ module _ (p : Problem) (a : Assignment) (truth : literal-true a true-literal ≡
       ↔ ((l : ℕ) → l ≤ p .bound → reading p a .chosen l ≡ true → reading p a .E n ≡ reading p a .Q n l)
   E-part-is = each-up-to-is a _ (p .bound) (λ l h. equal-where-is (selector-reads p a l) (E-reads p a n) (Q-reads p a n _ l h))
 
-  pub E-closed-is : Satisfies a (E-closed p n ∷ []) ↔ (reading p a .E n ≡ true → some-of (reading p a .chosen) (all-positions p) ≡ true)
+  pub E-closed-is : Satisfies a (E-closed p n ∷ []) ↔ (reading p a .E n ≡ true → some-of (reading p a .chosen) (positions p) ≡ true)
   E-closed-is = some-where-is (selector p) (positions p) (E-reads p a n)
 
   pub node-clauses-are : NodeProper p n (node p n) → Satisfies a (node-clauses p n) ↔ NodeHolds p (reading p a) n

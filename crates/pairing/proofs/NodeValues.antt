@@ -16,7 +16,7 @@ use Rattle.meaning.specs.Runs.{Position, values}
 use Rattle.meaning.specs.Formulas.{Formula, left-tree, tree-of, trees-after}
 use Rattle.meaning.specs.Bounded.{Shape, prefix, lasso, onward, visits, until-over, release-over, release-end, next-in, bounded-value}
 use Rattle.meaning.specs.Witnesses.{shape-of}
-use Rattle.pairing.specs.NodeLaws.{NodeLaws, left-value, at-next, op-value, Q-value, E-value}
+use Rattle.pairing.specs.NodeLaws.{NodeLaws, left-value, at-next, op-value, Q-end, Q-value, E-value}
 use Rattle.pairing.proofs.Trees.{tree, tree-unfolds}
 use Rattle.pairing.proofs.NextValues.{at-next-inside, at-next-last, at-next-same, same-going-down, until-to-last, release-to-last}
 use Rattle.pairing.proofs.Unrolled.{until-unrolled, until-once-round, release-unrolled, release-once-round}
@@ -167,24 +167,15 @@ node-laws {p} proper s w rows zero-false = record {
 
 -- ════════ The laws leave no other values ════════
 
--- Q past k.
-abbrev Q-ends : Node → Bool
-Q-ends (atom x) = false
-Q-ends (both a b) = false
-Q-ends (either a b) = false
-Q-ends (next a) = false
-Q-ends (until a b) = false
-Q-ends (release a b) = true
-
 -- Q unfolds by its node's op too: ops 0 to 3 do not read their own next value.
-Q-unfolds : (k : ℕ) (rows : ℕ → List Bool) (P : ℕ → ℕ → Bool) (E Q : ℕ → Bool) (x : Node) (n i : ℕ) (y : Bool)
-    → Q i ≡ Q-value k rows P E Q x n i → P n i ≡ op-value k rows P E x i y → Q i ≡ op-value k rows P E x i (at-next k Q (Q-ends x) i)
-Q-unfolds k rows P E Q (atom x) n i y q r = q ∙ r
-Q-unfolds k rows P E Q (both a b) n i y q r = q ∙ r
-Q-unfolds k rows P E Q (either a b) n i y q r = q ∙ r
-Q-unfolds k rows P E Q (next a) n i y q r = q ∙ r
-Q-unfolds k rows P E Q (until a b) n i y q r = q
-Q-unfolds k rows P E Q (release a b) n i y q r = q
+pub Q-by-op : (k : ℕ) (rows : ℕ → List Bool) (P : ℕ → ℕ → Bool) (E Q : ℕ → Bool) (x : Node) (n i : ℕ) (y : Bool)
+    → P n i ≡ op-value k rows P E x i y → Q-value k rows P E Q x n i ≡ op-value k rows P E x i (at-next k Q (Q-end x) i)
+Q-by-op k rows P E Q (atom x) n i y r = r
+Q-by-op k rows P E Q (both a b) n i y r = r
+Q-by-op k rows P E Q (either a b) n i y r = r
+Q-by-op k rows P E Q (next a) n i y r = r
+Q-by-op k rows P E Q (until a b) n i y r = refl
+Q-by-op k rows P E Q (release a b) n i y r = refl
 
 pub E-same : (p : Problem) (s : Shape) → StartWithin s p → (f g : ℕ → Bool) → ((i : ℕ) → i ≤ p .bound → f i ≡ g i) → E-value s f ≡ E-value s g
 E-same p prefix w f g same = refl
@@ -228,9 +219,9 @@ module _ (p : Problem) (rows : ℕ → List Bool) (P Q P′ Q′ : ℕ → ℕ �
 
         Q-same : (j : ℕ) → j ≤ p .bound → Q n j ≡ Q′ n j
         Q-same =
-            same-going-down (p .bound) step (Q n) (Q′ n) (Q-ends (node p n)) (Q-ends (node p n)) refl
-            (λ j r. Q-unfolds (p .bound) rows P E (Q n) (node p n) n j _ (laws .Q-law n j m r) (laws .P-law n j m r))
-            (λ j r. Q-unfolds (p .bound) rows P′ E′ (Q′ n) (node p n) n j _ (laws′ .Q-law n j m r) (laws′ .P-law n j m r) ∙ other j r _)
+            same-going-down (p .bound) step (Q n) (Q′ n) (Q-end (node p n)) (Q-end (node p n)) refl
+            (λ j r. laws .Q-law n j m r ∙ Q-by-op (p .bound) rows P E (Q n) (node p n) n j _ (laws .P-law n j m r))
+            (λ j r. laws′ .Q-law n j m r ∙ Q-by-op (p .bound) rows P′ E′ (Q′ n) (node p n) n j _ (laws′ .P-law n j m r) ∙ other j r _)
 
         E-end : E n ≡ E′ n
         E-end = laws .E-law n m ∙ E-same p s w (Q n) (Q′ n) Q-same ∙ sym (laws′ .E-law n m)

@@ -7,7 +7,8 @@ use lib.ListN.{length}
 use Rattle.clauses.specs.Lists.{numbers, each}
 use Rattle.meaning.specs.Problem.{Problem, latch-variable}
 use Rattle.meaning.specs.Bounded.{Shape, prefix, lasso}
-use Rattle.pairing.specs.ModelLaws.{Reading, all-positions}
+use Rattle.meaning.specs.Cnf.{positions}
+use Rattle.pairing.specs.ModelLaws.{Reading}
 
 -- "0 for a prefix or l + 1": of the first chosen l.
 abbrev pub first-chosen : (ℕ → Bool) → List ℕ → ℕ
@@ -32,4 +33,4 @@ abbrev pub input-bytes : Problem → Reading → ℕ → List ℕ
 input-bytes p r t = map (λ i. bit-byte (r .circuit t (suc i))) (numbers 0 (p .inputs))
 
 unfoldable pub bytes-of-reading : Problem → Reading → List ℕ
-bytes-of-reading p r = first-chosen (r .chosen) (all-positions p) ∷ (latch-bytes p r ++ each (all-positions p) (input-bytes p r))
+bytes-of-reading p r = first-chosen (r .chosen) (positions p) ∷ (latch-bytes p r ++ each (positions p) (input-bytes p r))

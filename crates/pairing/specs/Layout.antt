@@ -7,7 +7,8 @@ use lib.ListN.{length}
 use Rattle.clauses.specs.Lists.{numbers, each}
 use Rattle.clauses.specs.Clauses.{Assignment}
 use Rattle.meaning.specs.Problem.{Problem, W}
-use Rattle.pairing.specs.ModelLaws.{Reading, all-positions}
+use Rattle.meaning.specs.Cnf.{positions}
+use Rattle.pairing.specs.ModelLaws.{Reading}
 
 -- ════════ The list ════════
 
@@ -17,16 +18,16 @@ circuit-values p r t = map (r .circuit t) (numbers 1 (W p))
 
 -- Selectors 0..k.
 abbrev pub chosen-values : Problem → Reading → List Bool
-chosen-values p r = map (r .chosen) (all-positions p)
+chosen-values p r = map (r .chosen) (positions p)
 
 -- P(n,0..k), Q(n,0..k), E(n).
 abbrev pub node-values : Problem → Reading → ℕ → List Bool
-node-values p r n = map (r .P n) (all-positions p) ++ (map (r .Q n) (all-positions p) ++ (r .E n ∷ []))
+node-values p r n = map (r .P n) (positions p) ++ (map (r .Q n) (positions p) ++ (r .E n ∷ []))
 
 unfoldable pub layout : Problem → Reading → Assignment
 layout p r =
     r .truth
-    ∷ (each (all-positions p) (circuit-values p r)
+    ∷ (each (positions p) (circuit-values p r)
     ++ (chosen-values p r
     ++ each (numbers 0 (length (p .nodes))) (node-values p r)))
 

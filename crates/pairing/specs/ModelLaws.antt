@@ -10,7 +10,7 @@ use Rattle.clauses.specs.Clauses.{Assignment, literal-true}
 use Rattle.meaning.specs.Problem.{Problem, W, latch-variable, gate-variable, latch, gate, node}
 use Rattle.meaning.specs.Runs.{literal-value, gate-value, meets-reset}
 use Rattle.meaning.specs.Cnf as Cnf
-use Rattle.meaning.specs.Cnf.{true-literal, circuit-variable, selector, node-variables}
+use Rattle.meaning.specs.Cnf.{true-literal, positions, circuit-variable, selector, node-variables}
 use Rattle.pairing.specs.NodeLaws.{at-next, op-value, Q-value}
 
 -- The constant, circuit variable v at t, selector l, and P, Q, E of each node.
@@ -36,9 +36,6 @@ reading p a = record {
 abbrev pub row : Problem → Reading → ℕ → List Bool
 row p r t = map (r .circuit t) (numbers 0 (W p + 1))
 
-abbrev pub all-positions : Problem → List ℕ
-all-positions p = numbers 0 (p .bound + 1)
-
 -- Items 1 to 8 of the CNF.
 pub record ModelLaws (p : Problem) (r : Reading) : Type 0 where
   pub truth-law : r .truth ≡ true
@@ -54,5 +51,5 @@ pub record ModelLaws (p : Problem) (r : Reading) : Type 0 where
   pub Q-law : (n i : ℕ) → n < length (p .nodes) → i ≤ p .bound
       → r .Q n i ≡ Q-value (p .bound) (row p r) (r .P) (r .E) (r .Q n) (node p n) n i
   pub E-chosen-law : (n l : ℕ) → n < length (p .nodes) → l ≤ p .bound → r .chosen l ≡ true → r .E n ≡ r .Q n l
-  pub E-closed-law : (n : ℕ) → n < length (p .nodes) → r .E n ≡ true → some-of (r .chosen) (all-positions p) ≡ true
+  pub E-closed-law : (n : ℕ) → n < length (p .nodes) → r .E n ≡ true → some-of (r .chosen) (positions p) ≡ true
   pub formula-law : r .P (length (p .nodes) - 1) 0 ≡ true

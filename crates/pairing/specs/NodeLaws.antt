@@ -27,6 +27,15 @@ op-value k rows P E (next a) i y = at-next k (P a) (E a) i
 op-value k rows P E (until a b) i y = P b i || (left-value P a i && y)
 op-value k rows P E (release a b) i y = P b i && (left-value P a i || y)
 
+-- Q past k: true for R alone. Ops 0 to 3 do not read it.
+abbrev pub Q-end : Node → Bool
+Q-end (atom x) = false
+Q-end (both a b) = false
+Q-end (either a b) = false
+Q-end (next a) = false
+Q-end (until a b) = false
+Q-end (release a b) = true
+
 -- Q is P for ops 0 to 3; for the others the op's value with Q's own next value, which past k is false for U and true for R.
 abbrev pub Q-value : ℕ → (ℕ → List Bool) → (ℕ → ℕ → Bool) → (ℕ → Bool) → (ℕ → Bool) → Node → ℕ → ℕ → Bool
 Q-value k rows P E Q (atom x) n i = P n i

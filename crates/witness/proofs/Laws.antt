@@ -13,12 +13,12 @@ use Rattle.meaning.specs.Check.{Proper, NodeProper}
 use Rattle.meaning.specs.Formulas.{formula}
 use Rattle.meaning.specs.Bounded.{bounded-value}
 use Rattle.meaning.specs.Witnesses.{rows, position}
-use Rattle.pairing.specs.NodeLaws.{NodeLaws, at-next, op-value, Q-value}
+use Rattle.pairing.specs.NodeLaws.{NodeLaws, at-next, op-value, Q-end}
 use Rattle.pairing.proofs.Trees.{formula-is}
 use Rattle.pairing.proofs.NextValues.{at-next-same}
-use Rattle.pairing.proofs.NodeValues.{StartWithin, node-laws, node-laws-determine, values-zero-false}
+use Rattle.pairing.proofs.NodeValues.{StartWithin, Q-by-op, node-laws, node-laws-determine, values-zero-false}
 use Rattle.witness.specs.declared.nodes.Span.{Span}
-use Rattle.witness.specs.Tables.{positions-limit, at-node, Q-in, E-in, op-in, Q-end, shape-given, shape-in, RowsRight, SpanRight, Passed, LawsBelow}
+use Rattle.witness.specs.Tables.{positions-limit, at-node, Q-in, E-in, op-in, shape-given, shape-in, RowsRight, SpanRight, Passed, LawsBelow}
 use Rattle.witness.proofs.Tables.{Agree, E-agrees, position-within, op-agrees}
 use Rattle.witness.proofs.Passes.{agree-elsewhere}
 use Rattle.witness.proofs.RowLaws.{literal-in-row}
@@ -131,16 +131,6 @@ start-right p {span} right last-is = go (span .lasso) refl
     go true e = let h = right .start-within e in omega arith
     go false e = tt
 
--- Ops 0 to 3 do not read the next value, so there Q is P.
-Q-folds : (k : ℕ) (rows : ℕ → List Bool) (P : ℕ → ℕ → Bool) (E Q : ℕ → Bool) (x : Node) (n i : ℕ) (y : Bool)
-    → Q i ≡ op-value k rows P E x i (at-next k Q (Q-end x) i) → P n i ≡ op-value k rows P E x i y → Q i ≡ Q-value k rows P E Q x n i
-Q-folds k rows P E Q (atom x) n i y q r = q ∙ sym r
-Q-folds k rows P E Q (both a b) n i y q r = q ∙ sym r
-Q-folds k rows P E Q (either a b) n i y q r = q ∙ sym r
-Q-folds k rows P E Q (next a) n i y q r = q ∙ sym r
-Q-folds k rows P E Q (until a b) n i y q r = q
-Q-folds k rows P E Q (release a b) n i y q r = q
-
 module _ {p : Problem} (proper : Proper p) {span : Span} (right : SpanRight span) (last-is : span .last ≡ p .bound)
     {bs : List ℕ} {table : List Bool} (rows-right : RowsRight p bs (p .bound + 1) table) {t : List Bool}
     (laws : LawsBelow p span table t (length (p .nodes))) where
@@ -164,8 +154,8 @@ module _ {p : Problem} (proper : Proper p) {span : Span} (right : SpanRight span
   laws-right = record {
     P-law = P-right;
     Q-law = λ n i l h.
-        Q-folds (p .bound) (rows p bs) (at-node t) (E-in (shape-in span) t) (Q-in t n) (node p n) n i _
-        (laws .Q-law n i l (omega arith) ∙ next-right n i l h (Q-in t n) (Q-end (node p n))) (P-right n i l h);
+        laws .Q-law n i l (omega arith) ∙ next-right n i l h (Q-in t n) (Q-end (node p n))
+        ∙ sym (Q-by-op (p .bound) (rows p bs) (at-node t) (E-in (shape-in span) t) (Q-in t n) (node p n) n i _ (P-right n i l h));
     E-law = λ n l. refl;
   }
     where

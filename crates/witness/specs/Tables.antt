@@ -13,7 +13,7 @@ use Rattle.meaning.specs.Bounded.{Shape, prefix, lasso}
 use Rattle.meaning.specs.Witnesses.{witness-length, byte, rows}
 use Rattle.problem.specs.declared.Sizes.{Sizes}
 use Rattle.problem.specs.Promise.{sizes-of}
-use Rattle.pairing.specs.NodeLaws.{at-next, op-value, E-value}
+use Rattle.pairing.specs.NodeLaws.{at-next, op-value, Q-end, E-value}
 use Rattle.witness.specs.declared.nodes.Span.{Span}
 
 -- The words are a good problem's, and these are its sizes.
@@ -128,15 +128,6 @@ pub record PassReady (span : Span) (rows : List Bool) (m : ℕ) (x : Node) (t : 
 pub record Passed (span : Span) (rows : List Bool) (m : ℕ) (x : Node) (end : Bool) (t t′ : List Bool) : Type 0 where
   pub others : (c i : ℕ) → i < positions-limit → (c ≡ m → ⊥) → at-node t′ c i ≡ at-node t c i
   pub own : (i : ℕ) → i ≤ span .last → at-node t′ m i ≡ op-in span rows t x i (at-next (span .last) (at-node t′ m) end i)
-
--- Q past the last position: true for R alone. Ops 0 to 3 do not read it.
-abbrev pub Q-end : Node → Bool
-Q-end (atom x) = false
-Q-end (both a b) = false
-Q-end (either a b) = false
-Q-end (next a) = false
-Q-end (until a b) = false
-Q-end (release a b) = true
 
 -- The laws of P and Q for the nodes below n.
 pub record LawsBelow (p : Problem) (span : Span) (rows t : List Bool) (n : ℕ) : Type 0 where

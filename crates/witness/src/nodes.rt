@@ -18,9 +18,9 @@ ghost use Rattle.meaning.specs.Runs.{literal-value};
 ghost use Rattle.meaning.specs.Formulas.{formula};
 ghost use Rattle.meaning.specs.Bounded.{bounded-value};
 ghost use Rattle.meaning.specs.Witnesses.{rows};
-ghost use Rattle.pairing.specs.NodeLaws.{left-value, at-next};
+ghost use Rattle.pairing.specs.NodeLaws.{left-value, at-next, Q-end};
 ghost use Rattle.problem.specs.Promise.{left-of, node-read};
-ghost use Rattle.witness.specs.Tables.{RowsRight, SpanRight, OpReady, PassReady, Passed, TablesReady, StepReady, FormulaReady, LawsBelow, row-in, rows-room, at-node, E-in, op-in, Q-end, shape-in, shape-given};
+ghost use Rattle.witness.specs.Tables.{RowsRight, SpanRight, OpReady, PassReady, Passed, TablesReady, StepReady, FormulaReady, LawsBelow, row-in, rows-room, at-node, E-in, op-in, shape-in, shape-given};
 
 // As many nodes as document 01's limits allow.
 const NODES: usize = NODES_LIMIT as usize;

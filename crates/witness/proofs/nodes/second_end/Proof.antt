@@ -10,7 +10,7 @@ use Rattle.problem.specs.declared.Node.{Node}
 use Rattle.problem.specs.declared.Node.the-variants.{Atom, Both, Either, Next, Until, Release}
 use Rattle.problem.specs.Promise.{node-read}
 use Rattle.problem.proofs.Node.{the-type}
-use Rattle.witness.specs.Tables.{Q-end}
+use Rattle.pairing.specs.NodeLaws.{Q-end}
 use Rattle.witness.proofs.nodes.second_end.Statement.{statement}
 use Rattle.witness.proofs.nodes.second_end.Tie as tie
 
