@@ -2,9 +2,10 @@
 -- Assumes nothing.
 use mathlib.Core.Path.{_≡_, refl}
 use mathlib.Core.List.{List, [], _∷_}
-use Prim.Native.Nat.{ℕ}
+use Prim.Native.Nat.{ℕ, _+_, _*_}
 use native.Mathlib.Omega.{arith}
 use lib.ListN.{replicate}
+use Rattle.meaning.specs.Limits.{inputs-limit, latches-limit, gates-limit, nodes-limit, bound-limit}
 use Rattle.meaning.specs.Cases.{T-words}
 use Rattle.problem.specs.declared.Sizes.{Sizes}
 use Rattle.problem.specs.declared.Refusal.the-variants.{BadVersion, BadLength, OutsideLimits, BadReset, BadLiteral, BadNode}
@@ -14,25 +15,21 @@ use Rattle.problem.proofs.Lazy.{Input, laid-down, Breaks, other, other-
 
 -- ════════ Other limits ════════
 
--- 65 0 0 1 0, and zeros: in all but its inputs a good problem, as those below in all but one size
+-- One input too many, and zeros: in all but its inputs a good problem, as those below in all but one size
 abbrev pub inputs-over : Input
-inputs-over = bad (65 ∷ 0 ∷ 0 ∷ 1 ∷ 0 ∷ replicate 3 0) (OutsideLimits 0)
+inputs-over = bad ((inputs-limit + 1) ∷ 0 ∷ 0 ∷ 1 ∷ 0 ∷ replicate 3 0) (OutsideLimits 0)
 
--- 0 65 0 1 0, and zeros
 abbrev pub latches-over : Input
-latches-over = bad (0 ∷ 65 ∷ 0 ∷ 1 ∷ 0 ∷ replicate 133 0) (OutsideLimits 1)
+latches-over = bad (0 ∷ (latches-limit + 1) ∷ 0 ∷ 1 ∷ 0 ∷ replicate (2 * (latches-limit + 1) + 3) 0) (OutsideLimits 1)
 
--- 0 0 1025 1 0, and zeros
 abbrev pub gates-over : Input
-gates-over = bad (0 ∷ 0 ∷ 1_025 ∷ 1 ∷ 0 ∷ replicate 2_053 0) (OutsideLimits 2)
+gates-over = bad (0 ∷ 0 ∷ (gates-limit + 1) ∷ 1 ∷ 0 ∷ replicate (2 * (gates-limit + 1) + 3) 0) (OutsideLimits 2)
 
--- 0 0 0 65 0, and zeros
 abbrev pub nodes-over : Input
-nodes-over = bad (0 ∷ 0 ∷ 0 ∷ 65 ∷ 0 ∷ replicate 195 0) (OutsideLimits 3)
+nodes-over = bad (0 ∷ 0 ∷ 0 ∷ (nodes-limit + 1) ∷ 0 ∷ replicate (3 * (nodes-limit + 1)) 0) (OutsideLimits 3)
 
--- 0 0 0 1 32, and zeros
 abbrev pub bound-over : Input
-bound-over = bad (0 ∷ 0 ∷ 0 ∷ 1 ∷ 32 ∷ replicate 3 0) (OutsideLimits 4)
+bound-over = bad (0 ∷ 0 ∷ 0 ∷ 1 ∷ (bound-limit + 1) ∷ replicate 3 0) (OutsideLimits 4)
 
 -- 0 1 0 0 0, 3 0: T without its node
 abbrev pub no-nodes : Input
@@ -44,23 +41,23 @@ nodes-past-16-bits = bad (0 ∷ 1 ∷ 0 ∷ 65_537 ∷ 0 ∷ 3 ∷ 0 ∷ 0 ∷ 2
 
 module _ (s : Sizes) where
   pub inputs-limit-too-large-breaks : Breaks inputs-over (Good s)
-  unfolding laid-down
+  unfolding laid-down inputs-limit
   inputs-limit-too-large-breaks = other-number inputs-over (Good s) refl (λ e. omega arith)
 
   pub latches-limit-too-large-breaks : Breaks latches-over (Good s)
-  unfolding laid-down
+  unfolding laid-down latches-limit
   latches-limit-too-large-breaks = other-number latches-over (Good s) refl (λ e. omega arith)
 
   pub gates-limit-too-large-breaks : Breaks gates-over (Good s)
-  unfolding laid-down
+  unfolding laid-down gates-limit
   gates-limit-too-large-breaks = other-number gates-over (Good s) refl (λ e. omega arith)
 
   pub nodes-limit-too-large-breaks : Breaks nodes-over (Good s)
-  unfolding laid-down
+  unfolding laid-down nodes-limit
   nodes-limit-too-large-breaks = other-number nodes-over (Good s) refl (λ e. omega arith)
 
   pub bound-limit-too-large-breaks : Breaks bound-over (Good s)
-  unfolding laid-down
+  unfolding laid-down bound-limit
   bound-limit-too-large-breaks = other-number bound-over (Good s) refl (λ e. omega arith)
 
   pub no-nodes-breaks : Breaks no-nodes (Good s)
@@ -75,12 +72,12 @@ pub made-up-limit-place-breaks : (i : ℕ) → ¬ (i ≡ 3) → Breaks no-nodes 
 unfolding laid-down
 made-up-limit-place-breaks i = other-place no-nodes (Refused (OutsideLimits i)) refl
 
--- 64 64 1024 64 31: each size is at its limit, and the words are cut short
+-- Each size is at its limit, and the words are cut short.
 abbrev pub at-the-limits : Input
-at-the-limits = bad (64 ∷ 64 ∷ 1_024 ∷ 64 ∷ 31 ∷ []) (BadLength 5)
+at-the-limits = bad (inputs-limit ∷ latches-limit ∷ gates-limit ∷ nodes-limit ∷ bound-limit ∷ []) (BadLength 5)
 
 pub limit-too-small-breaks : (i : ℕ) → Breaks at-the-limits (Refused (OutsideLimits i))
-unfolding laid-down
+unfolding laid-down inputs-limit latches-limit gates-limit nodes-limit bound-limit
 limit-too-small-breaks i = other-number at-the-limits (Refused (OutsideLimits i)) refl (λ e. omega arith)
 
 -- ════════ The version, the header, the limits, the length ════════
@@ -101,20 +98,20 @@ pub version-after-words-breaks : (n : ℕ) → Breaks none-of-other-version (Ref
 unfolding laid-down
 version-after-words-breaks n = other-number none-of-other-version (Refused (BadLength n)) refl (λ e. omega arith)
 
--- 65 0 0 0: I and N are outside their limits, and k is not there
+-- I and N are outside their limits, and k is not there.
 abbrev pub four-words : Input
-four-words = bad (65 ∷ 0 ∷ 0 ∷ 0 ∷ []) (BadLength 4)
+four-words = bad ((inputs-limit + 1) ∷ 0 ∷ 0 ∷ 0 ∷ []) (BadLength 4)
 
 pub header-not-checked-first-breaks : (r : Checked) → ¬ (r ≡ Refused (BadLength 4)) → Breaks four-words r
-unfolding laid-down
+unfolding laid-down inputs-limit
 header-not-checked-first-breaks r = other four-words r refl tt
 
--- 65 0 0 1 0: I is outside its limit, and the node is not there
+-- I is outside its limit, and the node is not there.
 abbrev pub limit-and-length : Input
-limit-and-length = bad (65 ∷ 0 ∷ 0 ∷ 1 ∷ 0 ∷ []) (OutsideLimits 0)
+limit-and-length = bad ((inputs-limit + 1) ∷ 0 ∷ 0 ∷ 1 ∷ 0 ∷ []) (OutsideLimits 0)
 
 pub limits-after-length-breaks : (n : ℕ) → Breaks limit-and-length (Refused (BadLength n))
-unfolding laid-down
+unfolding laid-down inputs-limit
 limits-after-length-breaks n = other-number limit-and-length (Refused (BadLength n)) refl (λ e. omega arith)
 
 -- 0 1 0 1 0, 3 3, 0 2: the reset at 6 is 3, and a word is not there
@@ -125,36 +122,33 @@ pub length-after-parts-breaks : (i : ℕ) → Breaks length-and-reset (Refused (
 unfolding laid-down
 length-after-parts-breaks i = other-number length-and-reset (Refused (BadReset i)) refl (λ e. omega arith)
 
--- 65 65 0 1 0: I and L are outside; below L and A, A and N, N and k. An order other than the header's turns one of these pairs round.
+-- I and L are outside; below L and A, A and N, N and k. An order other than the header's turns one of these pairs round.
 abbrev pub inputs-and-latches : Input
-inputs-and-latches = bad (65 ∷ 65 ∷ 0 ∷ 1 ∷ 0 ∷ []) (OutsideLimits 0)
+inputs-and-latches = bad ((inputs-limit + 1) ∷ (latches-limit + 1) ∷ 0 ∷ 1 ∷ 0 ∷ []) (OutsideLimits 0)
 
 pub limits-out-of-order-breaks : Breaks inputs-and-latches (Refused (OutsideLimits 1))
-unfolding laid-down
+unfolding laid-down inputs-limit latches-limit
 limits-out-of-order-breaks = other-place inputs-and-latches (Refused (OutsideLimits 1)) refl (λ e. omega arith)
 
--- 0 65 1025 1 0
 abbrev pub latches-and-gates : Input
-latches-and-gates = bad (0 ∷ 65 ∷ 1_025 ∷ 1 ∷ 0 ∷ []) (OutsideLimits 1)
+latches-and-gates = bad (0 ∷ (latches-limit + 1) ∷ (gates-limit + 1) ∷ 1 ∷ 0 ∷ []) (OutsideLimits 1)
 
 pub gates-limit-first-breaks : Breaks latches-and-gates (Refused (OutsideLimits 2))
-unfolding laid-down
+unfolding laid-down latches-limit gates-limit
 gates-limit-first-breaks = other-place latches-and-gates (Refused (OutsideLimits 2)) refl (λ e. omega arith)
 
--- 0 0 1025 0 0
 abbrev pub gates-and-nodes : Input
-gates-and-nodes = bad (0 ∷ 0 ∷ 1_025 ∷ 0 ∷ 0 ∷ []) (OutsideLimits 2)
+gates-and-nodes = bad (0 ∷ 0 ∷ (gates-limit + 1) ∷ 0 ∷ 0 ∷ []) (OutsideLimits 2)
 
 pub nodes-limit-first-breaks : Breaks gates-and-nodes (Refused (OutsideLimits 3))
-unfolding laid-down
+unfolding laid-down gates-limit
 nodes-limit-first-breaks = other-place gates-and-nodes (Refused (OutsideLimits 3)) refl (λ e. omega arith)
 
--- 0 0 0 0 32
 abbrev pub nodes-and-bound : Input
-nodes-and-bound = bad (0 ∷ 0 ∷ 0 ∷ 0 ∷ 32 ∷ []) (OutsideLimits 3)
+nodes-and-bound = bad (0 ∷ 0 ∷ 0 ∷ 0 ∷ (bound-limit + 1) ∷ []) (OutsideLimits 3)
 
 pub bound-limit-first-breaks : Breaks nodes-and-bound (Refused (OutsideLimits 4))
-unfolding laid-down
+unfolding laid-down bound-limit
 bound-limit-first-breaks = other-place nodes-and-bound (Refused (OutsideLimits 4)) refl (λ e. omega arith)
 
 -- ════════ The words in order ════════
