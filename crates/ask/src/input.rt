@@ -2,6 +2,7 @@
 use libc::STDIN_FILENO;
 ghost use Prim.Native.Nat.{_+_, _*_, _≤_};
 ghost use lib.ListN.{length};
+ghost use Rattle.ask.specs.Capacities.{problem-words, witness-bytes, signed-words};
 ghost use Rattle.ask.specs.Held.{Held};
 
 // The most items that a buffer of a request may have.
@@ -124,7 +125,7 @@ fn decode_signed(bytes: &[u8], count: usize, words: &mut [i32])
 
 // The count of a buffer of words, with the words' bytes read too.
 fn next_bytes(bytes: &mut [u8; LARGEST], most: usize) -> Got
-    requires { ⌜ most ≤ 65536 ⌝ }
+    requires { ⌜ most ≤ signed-words ⌝ }
     ensures { λ r. ⌜ Held r most ⌝ }
 {
     let got = next_count(most);
@@ -137,7 +138,7 @@ fn next_bytes(bytes: &mut [u8; LARGEST], most: usize) -> Got
 }
 
 pub(crate) fn next_words(bytes: &mut [u8; LARGEST], words: &mut [u32; PROBLEM_WORDS]) -> Got
-    ensures { λ r. ⌜ Held r 4096 ⌝ }
+    ensures { λ r. ⌜ Held r problem-words ⌝ }
 {
     let got = next_bytes(bytes, PROBLEM_WORDS);
     if let Got::Items(count) = got {
@@ -148,7 +149,7 @@ pub(crate) fn next_words(bytes: &mut [u8; LARGEST], words: &mut [u32; PROBLEM_WO
 
 // CNF words and refutation words are as many at most.
 pub(crate) fn next_signed(bytes: &mut [u8; LARGEST], words: &mut [i32; CNF_WORDS]) -> Got
-    ensures { λ r. ⌜ Held r 65536 ⌝ }
+    ensures { λ r. ⌜ Held r signed-words ⌝ }
 {
     let got = next_bytes(bytes, CNF_WORDS);
     if let Got::Items(count) = got {
@@ -159,7 +160,7 @@ pub(crate) fn next_signed(bytes: &mut [u8; LARGEST], words: &mut [i32; CNF_WORDS
 
 // A witness is read straight into its buffer.
 pub(crate) fn next_witness(witness: &mut [u8; WITNESS_BYTES]) -> Got
-    ensures { λ r. ⌜ Held r 8192 ⌝ }
+    ensures { λ r. ⌜ Held r witness-bytes ⌝ }
 {
     let got = next_count(WITNESS_BYTES);
     if let Got::Items(count) = got {

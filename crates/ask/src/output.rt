@@ -4,13 +4,14 @@ use crate::input::Fault;
 use libc::STDOUT_FILENO;
 use refutation::literals::variable;
 ghost use Prim.Native.Nat.{_<_};
+ghost use Rattle.ask.specs.Capacities.{line-bytes};
 
 const OUT: usize = 4096;
 
 // A write that fails is left so: no later answer could tell of it.
 fn put_byte(byte: u8, at: usize, out: &mut [u8; OUT]) -> usize
-    requires { ⌜ at < 4096 ⌝ }
-    ensures { λ r. ⌜ r < 4096 ⌝ }
+    requires { ⌜ at < line-bytes ⌝ }
+    ensures { λ r. ⌜ r < line-bytes ⌝ }
 {
     out[at] = byte;
     if at < OUT - 1 {
@@ -21,8 +22,8 @@ fn put_byte(byte: u8, at: usize, out: &mut [u8; OUT]) -> usize
 }
 
 fn put_bytes(text: &[u8], at: usize, out: &mut [u8; OUT]) -> usize
-    requires { ⌜ at < 4096 ⌝ }
-    ensures { λ r. ⌜ r < 4096 ⌝ }
+    requires { ⌜ at < line-bytes ⌝ }
+    ensures { λ r. ⌜ r < line-bytes ⌝ }
 {
     let mut next = at;
     let mut i = 0;
@@ -34,8 +35,8 @@ fn put_bytes(text: &[u8], at: usize, out: &mut [u8; OUT]) -> usize
 }
 
 fn put_number(n: u64, at: usize, out: &mut [u8; OUT]) -> usize
-    requires { ⌜ at < 4096 ⌝ }
-    ensures { λ r. ⌜ r < 4096 ⌝ }
+    requires { ⌜ at < line-bytes ⌝ }
+    ensures { λ r. ⌜ r < line-bytes ⌝ }
 {
     let mut digits = [0u8; 20];
     let size = io::decimal(n, &mut digits);
@@ -44,8 +45,8 @@ fn put_number(n: u64, at: usize, out: &mut [u8; OUT]) -> usize
 
 // The line that opens an answer.
 fn put_answer(answer: Answer, at: usize, out: &mut [u8; OUT]) -> usize
-    requires { ⌜ at < 4096 ⌝ }
-    ensures { λ r. ⌜ r < 4096 ⌝ }
+    requires { ⌜ at < line-bytes ⌝ }
+    ensures { λ r. ⌜ r < line-bytes ⌝ }
 {
     let numbered = put_number(answer.number as u64, at, out);
     let parted = put_byte(b' ', numbered, out);
@@ -55,8 +56,8 @@ fn put_answer(answer: Answer, at: usize, out: &mut [u8; OUT]) -> usize
 
 // A line with the words of a work area.
 fn put_area(area: &[u64], at: usize, out: &mut [u8; OUT]) -> usize
-    requires { ⌜ at < 4096 ⌝ }
-    ensures { λ r. ⌜ r < 4096 ⌝ }
+    requires { ⌜ at < line-bytes ⌝ }
+    ensures { λ r. ⌜ r < line-bytes ⌝ }
 {
     let mut next = at;
     let mut i = 0;
@@ -71,8 +72,8 @@ fn put_area(area: &[u64], at: usize, out: &mut [u8; OUT]) -> usize
 }
 
 fn put_word(w: i32, at: usize, out: &mut [u8; OUT]) -> usize
-    requires { ⌜ at < 4096 ⌝ }
-    ensures { λ r. ⌜ r < 4096 ⌝ }
+    requires { ⌜ at < line-bytes ⌝ }
+    ensures { λ r. ⌜ r < line-bytes ⌝ }
 {
     if w < 0 {
         let signed = put_byte(b'-', at, out);
@@ -83,8 +84,8 @@ fn put_word(w: i32, at: usize, out: &mut [u8; OUT]) -> usize
 
 // A line with the words of a CNF room.
 fn put_room(room: &[i32], at: usize, out: &mut [u8; OUT]) -> usize
-    requires { ⌜ at < 4096 ⌝ }
-    ensures { λ r. ⌜ r < 4096 ⌝ }
+    requires { ⌜ at < line-bytes ⌝ }
+    ensures { λ r. ⌜ r < line-bytes ⌝ }
 {
     let mut next = at;
     let mut i = 0;
@@ -100,7 +101,7 @@ fn put_room(room: &[i32], at: usize, out: &mut [u8; OUT]) -> usize
 
 // Writes out what was gathered.
 fn finish(at: usize, out: &[u8; OUT])
-    requires { ⌜ at < 4096 ⌝ }
+    requires { ⌜ at < line-bytes ⌝ }
 {
     let all: &[u8] = out;
     io::write_all(STDOUT_FILENO, &all[0..at]);

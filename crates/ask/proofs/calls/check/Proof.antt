@@ -3,6 +3,7 @@ use Prim.Native.Nat.{_≤_}
 use native.Mathlib.Omega.{arith}
 use borrow.Author.Needs.{needs}
 use Rattle.ask.proofs.Counted.{counted}
+use Rattle.ask.specs.Capacities.{problem-words}
 use Rattle.ask.proofs.calls.check.Statement.{statement}
 use Rattle.ask.proofs.calls.check.Tie as tie
 
@@ -24,7 +25,7 @@ sub-check c = search needs
 part-check-start : tie.Need-part-check-start
 part-check-start c = search needs
 
-within : (t : tie.After-known-told) → t .before .n .given .0 .0 ≤ 4096
+within : (t : tie.After-known-told) → t .before .n .given .0 .0 ≤ problem-words
 within t = counted (t .before .n .given .1) (t .before .before .before .next-words .ensures)
 
 part-check-end : tie.Need-part-check-end

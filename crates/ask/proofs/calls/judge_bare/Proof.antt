@@ -3,6 +3,7 @@ use Prim.Native.Nat.{_≤_}
 use native.Mathlib.Omega.{arith}
 use borrow.Author.Needs.{needs}
 use Rattle.ask.proofs.Counted.{counted}
+use Rattle.ask.specs.Capacities.{signed-words}
 use Rattle.ask.proofs.calls.judge_bare.Statement.{statement}
 use Rattle.ask.proofs.calls.judge_bare.Tie as tie
 
@@ -36,10 +37,10 @@ sub-judge-areas c = search needs
 part-judge-areas-start : tie.Need-part-judge-areas-start
 part-judge-areas-start c = search needs
 
-words-within : (t : tie.After-known-told) → t .before .n .given .0 .0 ≤ 65536
+words-within : (t : tie.After-known-told) → t .before .n .given .0 .0 ≤ signed-words
 words-within t = counted (t .before .n .given .1) (t .before .before .before .next-signed .ensures)
 
-steps-within : (t : tie.After-known-told3) → t .before .n2 .given .0 .0 ≤ 65536
+steps-within : (t : tie.After-known-told3) → t .before .n2 .given .0 .0 ≤ signed-words
 steps-within t = counted (t .before .n2 .given .1) (t .before .before .before .next-signed2 .ensures)
 
 -- Where the CNF is known, by where the refutation is.

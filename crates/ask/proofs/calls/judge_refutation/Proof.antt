@@ -3,6 +3,7 @@ use Prim.Native.Nat.{_≤_}
 use native.Mathlib.Omega.{arith}
 use borrow.Author.Needs.{needs}
 use Rattle.ask.proofs.Counted.{counted}
+use Rattle.ask.specs.Capacities.{problem-words, signed-words}
 use Rattle.ask.proofs.calls.judge_refutation.Statement.{statement}
 use Rattle.ask.proofs.calls.judge_refutation.Tie as tie
 
@@ -36,10 +37,10 @@ sub-refute-within c = search needs
 part-refute-within-start : tie.Need-part-refute-within-start
 part-refute-within-start c = search needs
 
-words-within : (t : tie.After-known-told) → t .before .n .given .0 .0 ≤ 4096
+words-within : (t : tie.After-known-told) → t .before .n .given .0 .0 ≤ problem-words
 words-within t = counted (t .before .n .given .1) (t .before .before .before .next-words .ensures)
 
-steps-within : (t : tie.After-known-told3) → t .before .n2 .given .0 .0 ≤ 65536
+steps-within : (t : tie.After-known-told3) → t .before .n2 .given .0 .0 ≤ signed-words
 steps-within t = counted (t .before .n2 .given .1) (t .before .before .before .next-signed .ensures)
 
 -- Where the problem is known, by where the refutation is.

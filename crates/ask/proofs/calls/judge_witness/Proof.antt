@@ -3,6 +3,7 @@ use Prim.Native.Nat.{_≤_}
 use native.Mathlib.Omega.{arith}
 use borrow.Author.Needs.{needs}
 use Rattle.ask.proofs.Counted.{counted}
+use Rattle.ask.specs.Capacities.{problem-words, witness-bytes}
 use Rattle.ask.proofs.calls.judge_witness.Statement.{statement}
 use Rattle.ask.proofs.calls.judge_witness.Tie as tie
 
@@ -36,10 +37,10 @@ sub-judge c = search needs
 part-judge-start : tie.Need-part-judge-start
 part-judge-start c = search needs
 
-words-within : (t : tie.After-known-told) → t .before .n .given .0 .0 ≤ 4096
+words-within : (t : tie.After-known-told) → t .before .n .given .0 .0 ≤ problem-words
 words-within t = counted (t .before .n .given .1) (t .before .before .before .next-words .ensures)
 
-bytes-within : (t : tie.After-known-told3) → t .before .n2 .given .0 .0 ≤ 8192
+bytes-within : (t : tie.After-known-told3) → t .before .n2 .given .0 .0 ≤ witness-bytes
 bytes-within t = counted (t .before .n2 .given .1) (t .before .before .before .next-witness .ensures)
 
 -- Where the problem is known, by where the witness is.

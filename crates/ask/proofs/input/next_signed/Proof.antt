@@ -3,6 +3,7 @@ use Prim.Native.Nat.{_≤_}
 use native.Mathlib.Omega.{arith}
 use borrow.Author.Needs.{needs}
 use Rattle.ask.proofs.Counted.{counted}
+use Rattle.ask.specs.Capacities.{signed-words}
 use Rattle.ask.proofs.input.next_signed.Statement.{statement}
 use Rattle.ask.proofs.input.next_signed.Tie as tie
 
@@ -12,7 +13,7 @@ next-bytes-requires c κs = search needs
 enum-known-got : tie.Need-enum-known-got
 enum-known-got c = search needs
 
-within : (t : tie.After-known-told) → t .before .got .given .0 .0 ≤ 65536
+within : (t : tie.After-known-told) → t .before .got .given .0 .0 ≤ signed-words
 within t = counted (t .before .got .given .1) (t .before .before .before .next-bytes .ensures)
 
 decode-signed-requires : tie.Need-decode-signed-requires

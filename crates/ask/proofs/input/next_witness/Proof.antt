@@ -3,6 +3,7 @@ use Prim.Native.Nat.{_≤_}
 use native.Mathlib.Omega.{arith}
 use borrow.Author.Needs.{needs}
 use Rattle.ask.proofs.Counted.{counted}
+use Rattle.ask.specs.Capacities.{witness-bytes}
 use Rattle.ask.proofs.input.next_witness.Statement.{statement}
 use Rattle.ask.proofs.input.next_witness.Tie as tie
 
@@ -12,7 +13,7 @@ next-count-requires c κs = search needs
 enum-known-got : tie.Need-enum-known-got
 enum-known-got c = search needs
 
-within : (t : tie.After-known-told) → t .before .got .given .0 .0 ≤ 8192
+within : (t : tie.After-known-told) → t .before .got .given .0 .0 ≤ witness-bytes
 within t = counted (t .before .got .given .1) (t .before .before .before .next-count .ensures)
 
 fills-requires : tie.Need-fills-requires

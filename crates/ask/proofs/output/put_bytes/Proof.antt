@@ -2,11 +2,12 @@
 use Prim.Native.Nat.{_≤_, _<_, _-_}
 use borrow.Author.Needs.{needs}
 use lib.ListN.{length}
+use Rattle.ask.specs.Capacities.{line-bytes}
 use Rattle.ask.proofs.output.put_bytes.Statement.{statement}
 use Rattle.ask.proofs.output.put_bytes.Tie as tie
 
 abbrev Inv-loop : tie.InvT-loop
-Inv-loop text at out₀ next₀ i₀ out next i = (i ≤ length text) × (next < 4096)
+Inv-loop text at out₀ next₀ i₀ out next i = (i ≤ length text) × (next < line-bytes)
 
 abbrev μ-loop : tie.MeasureT-loop
 μ-loop text at out₀ next₀ i₀ out next i = length text - i

@@ -4,11 +4,12 @@ use Prim.Native.Nat.{_≤_, _<_, _-_}
 use native.Mathlib.Omega.{arith}
 use borrow.Author.Needs.{needs}
 use lib.ListN.{length}
+use Rattle.ask.specs.Capacities.{line-bytes}
 use Rattle.ask.proofs.output.put_room.Statement.{statement}
 use Rattle.ask.proofs.output.put_room.Tie as tie
 
 abbrev Inv-loop : tie.InvT-loop
-Inv-loop room at out₀ next₀ i₀ out next i = (i ≤ length room) × (next < 4096)
+Inv-loop room at out₀ next₀ i₀ out next i = (i ≤ length room) × (next < line-bytes)
 
 abbrev μ-loop : tie.MeasureT-loop
 μ-loop room at out₀ next₀ i₀ out next i = length room - i
