@@ -13,11 +13,10 @@ use Rattle.clauses.specs.Answers.{Answer, Check, first-failing, granted}
 use Rattle.clauses.specs.Clauses.{Clause}
 use Rattle.clauses.specs.Refutations.{Part, literals, part-after, own-after, word-checks, refutation-checks, area-checks, steps-of, judge-steps, judge-clauses}
 use Rattle.clauses.proofs.Satisfaction.{both-true, first-true, second-true, all-of-append}
-use Rattle.clauses.proofs.Answers.{number-of, all-pass-if-granted}
+use Rattle.clauses.proofs.Answers.{number-of, all-pass-if-granted, steps-judged}
 use Rattle.refutation.specs.declared.Judgement.{Judgement}
 use Rattle.refutation.specs.declared.Judgement.the-variants.{BadCnf}
 use Rattle.refutation.specs.Promise.{answer-of, Judged}
-use Rattle.refutation.proofs.Judgements.{steps-judged}
 use Rattle.meaning.specs.Problem.{Problem, problem}
 use Rattle.meaning.specs.Check.{WellFormed, Proper}
 use Rattle.meaning.specs.Runs.{Position, EndlessRun}

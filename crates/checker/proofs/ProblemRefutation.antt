@@ -18,14 +18,11 @@ use Rattle.clauses.specs.Clauses.{Clause, Within, variable-of, literal-within}
 use Rattle.clauses.specs.CnfWords.{ended-by-0, words-of, clauses-of, cnf-checks}
 use Rattle.clauses.specs.Refutations.{steps-of, refutation-checks, area-checks, judge-steps, judge-clauses, judge-cnf, judged, area-after}
 use Rattle.clauses.proofs.Satisfaction.{both-true, first-true, second-true, all-of-append}
-use Rattle.clauses.proofs.Answers.{passing, first-failing-passed, numbered-passing, number-of}
-use Rattle.clauses.proofs.ReadBack.{clauses-back, words-ended, within-no-zeros}
+use Rattle.clauses.proofs.Answers.{passing, first-failing-passed, numbered-passing, number-of, refused-anyway, steps-judged}
+use Rattle.clauses.proofs.ReadBack.{clauses-back, words-ended, within-no-zeros, clauses-fewer}
 use Rattle.refutation.specs.declared.Judgement.{Judgement}
 use Rattle.refutation.specs.declared.Judgement.the-variants as judgements
 use Rattle.refutation.specs.Promise.{answer-of, Judged}
-use Rattle.refutation.specs.Work.{CnfRight, StepsRight}
-use Rattle.refutation.proofs.RightWords.{clauses-fewer}
-use Rattle.refutation.proofs.Judgements.{refused-anyway, steps-judged}
 use Rattle.meaning.specs.Answers.{room-too-small}
 use Rattle.meaning.specs.Problem.{Problem, problem}
 use Rattle.meaning.specs.Check.{WellFormed, Proper}
@@ -69,7 +66,7 @@ module _ (p : Problem) (proper : Proper p) where
   unfolding cnf-words
   cnf-back = clauses-back (cnf p) (within-no-zeros (variables p) (cnf p) (literals-within p proper))
 
-  cnf-passes : CnfRight (variables p) (cnf-words p)
+  cnf-passes : all-of passing (cnf-checks (variables p) (cnf-words p)) ≡ true
   unfolding cnf-checks cnf-words
   cnf-passes =
       both-true (le-leb _ _ (variables-fit p proper))
@@ -162,7 +159,7 @@ module _ (version : ℕ) (ws : List ℕ) (refutation : List ℤ) (room numbers c
         unchanged = refl;
       }
 
-      module _ {s : ℕ} (right : StepsRight (n .variables) (n .clauses) refutation × (s ≡ length (steps-of refutation))) where
+      module _ {s : ℕ} (right : (all-of passing (refutation-checks (n .variables) (n .clauses) refutation) ≡ true) × (s ≡ length (steps-of refutation))) where
         past-words : answer-here
             ≡ first-failing (area-checks (n .variables) (cnf (problem ws)) (steps-of refutation) numbers clauses) (judge-steps (cnf (problem ws)) (steps-of refutation))
         past-words = past-counts ∙ first-failing-passed (refutation-checks (n .variables) (n .clauses) refutation) _ (right .0)

@@ -10,7 +10,7 @@ use Rattle.clauses.specs.Lists.{all-of, numbered}
 use Rattle.clauses.specs.Answers.{Answer, Check, check, first-failing, granted, not-closed}
 use Rattle.clauses.specs.Clauses.{Clause}
 use Rattle.clauses.specs.CnfWords.{clauses-of, cnf-checks}
-use Rattle.clauses.specs.Refutations.{Step, Part, literals, part-after, own-after, word-checks, refutation-checks, step-checks, area-checks, steps-of, last-is-empty, judge-steps, judge-clauses, judge-cnf, word-right}
+use Rattle.clauses.specs.Refutations.{Step, Part, literals, part-after, own-after, word-checks, refutation-checks, step-checks, area-checks, steps-of, last-is-empty, judge-steps, judge-clauses, judge-cnf, word-right, judged}
 use Rattle.clauses.proofs.Satisfaction.{both-true, first-true, second-true, all-of-append, all-of-first, all-of-second, all-of-numbered}
 
 -- ════════ Answers ════════
@@ -61,6 +61,16 @@ pub after-if-granted : (cs : List Check) (after : Answer) {p : ℕ} → all-of r
     → first-failing cs after ≡ granted p → after ≡ granted p
 after-if-granted cs after r e = sym (first-failing-passed cs after (all-pass-if-granted cs after r e)) ∙ e
 
+-- A refusal does not depend on what comes after the checks.
+pub refused-anyway : (cs : List Check) (a b : Answer) {x : Answer} → x ≡ first-failing cs a → (x ≡ a → ⊥) → x ≡ first-failing cs b
+refused-anyway [] a b e n = absurd (n e)
+refused-anyway (c ∷ cs) a b {x} e n = go (c .passes) e (λ f. refused-anyway cs a b f n)
+  where
+    go : (t : Bool) → x ≡ cond t (first-failing cs a) (c .otherwise) → (x ≡ first-failing cs a → x ≡ first-failing cs b)
+        → x ≡ cond t (first-failing cs b) (c .otherwise)
+    go true f later = later f
+    go false f later = f
+
 -- Numbered elements that are checked by one test pass where each passes it.
 pub numbered-passing : {A : Type 0} (t : A → Bool) (a : ℕ → Answer) (i : ℕ) (xs : List A)
     → all-of passing (numbered i xs (λ j x. check (t x) (a j))) ≡ all-of t xs
@@ -109,6 +119,46 @@ all-step-checks cs ss = step-checks cs 0 ss ++ (closing-check ss ∷ [])
 
 all-step-checks-refusing : (cs : List Clause) (ss : List Step) → all-of refusing (all-step-checks cs ss) ≡ true
 all-step-checks-refusing cs ss = rw all-of-append (both-true (step-checks-refusing cs 0 ss) refl)
+
+-- ════════ Words that were counted ════════
+
+-- A count that is granted: every check passed, and it is the one that comes after them.
+counted : (cs : List Check) (m : ℕ) {n : ℕ} → all-of refusing cs ≡ true → granted n ≡ first-failing cs (granted m)
+    → (all-of passing cs ≡ true) × (n ≡ m)
+counted cs m r e =
+    (all-pass-if-granted cs (granted m) r (sym e), sym (place-of (after-if-granted cs (granted m) r (sym e))))
+
+pub cnf-counted : (variables : ℕ) (cnf : List ℤ) {n : ℕ} → granted n ≡ first-failing (cnf-checks variables cnf) (granted (length (clauses-of cnf)))
+    → (all-of passing (cnf-checks variables cnf) ≡ true) × (n ≡ length (clauses-of cnf))
+cnf-counted variables cnf = counted (cnf-checks variables cnf) (length (clauses-of cnf)) (cnf-checks-refusing variables cnf)
+
+pub steps-counted : (variables clauses : ℕ) (ws : List ℤ) {n : ℕ}
+    → granted n ≡ first-failing (refutation-checks variables clauses ws) (granted (length (steps-of ws)))
+    → (all-of passing (refutation-checks variables clauses ws) ≡ true) × (n ≡ length (steps-of ws))
+steps-counted variables clauses ws =
+    counted (refutation-checks variables clauses ws) (length (steps-of ws)) (refutation-checks-refusing variables clauses ws)
+
+-- ════════ Steps that were judged: yes, 13 or 14 ════════
+
+abbrev judged-check : Check → Bool
+judged-check c = judged (c .otherwise)
+
+judged-first : (cs : List Check) (after : Answer) → all-of judged-check cs ≡ true → judged after ≡ true → judged (first-failing cs after) ≡ true
+judged-first [] after e a = a
+judged-first (c ∷ cs) after e a =
+    go (c .passes) (first-true (judged-check c) (all-of judged-check cs) e) (judged-first cs after (second-true (judged-check c) (all-of judged-check cs) e) a)
+  where
+    go : (b : Bool) → judged (c .otherwise) ≡ true → judged (first-failing cs after) ≡ true → judged (cond b (first-failing cs after) (c .otherwise)) ≡ true
+    go true o rest = rest
+    go false o rest = o
+
+step-checks-judged : (cs : List Clause) (i : ℕ) (ss : List Step) → all-of judged-check (step-checks cs i ss) ≡ true
+step-checks-judged cs i [] = refl
+step-checks-judged cs i (s ∷ ss) = step-checks-judged _ (suc i) ss
+
+pub steps-judged : (cs : List Clause) (ss : List Step) → judged (judge-steps cs ss) ≡ true
+unfolding judge-steps
+steps-judged cs ss = judged-first (step-checks cs 0 ss ++ _) (granted 0) (rw all-of-append (both-true (step-checks-judged cs 0 ss) refl)) refl
 
 -- ════════ What a judge's yes says ════════
 

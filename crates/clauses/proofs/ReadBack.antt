@@ -3,8 +3,9 @@
 use mathlib.Core.Path.{_≡_, refl, sym, _∙_, ap}
 use mathlib.Core.Bool.{Bool, true, not, _&&_, false≢true}
 use mathlib.Core.List.{List, [], _∷_, _++_, map, append-assoc}
-use Prim.Native.Nat.{ℕ, zero, suc, _<_, zero-le, suc-le-suc}
+use Prim.Native.Nat.{ℕ, zero, suc, _≤_, _<_, zero-le, suc-le-suc}
 use native.Mathlib.Nat.{not-suc-le-zero}
+use native.Mathlib.Omega.{arith}
 use borrow.Author.Tests.{not-true}
 use lib.IntN.{ℤ, pos, negsuc}
 use lib.Dec.{leb}
@@ -12,7 +13,7 @@ use lib.ListN.{length}
 use Rattle.clauses.specs.Lists.{all-of}
 use Rattle.clauses.specs.Clauses.{Clause, variable-of, literal-within, Within}
 use Rattle.clauses.specs.CnfWords.{ended-by-0, words-of, in-front, clauses-of, is-0, ended-after, ended}
-use Rattle.clauses.specs.Refutations.{Step, steps-of, step-words, words-of-steps, Part, literals, hints, other, part-at-end, whole}
+use Rattle.clauses.specs.Refutations.{Step, paired, steps-of, step-words, words-of-steps, Part, literals, hints, other, part-at-end, whole}
 use Rattle.clauses.proofs.Satisfaction.{first-true, second-true, not-both, all-of-weaker}
 
 -- ════════ Words that are no 0 ════════
@@ -184,3 +185,23 @@ steps-part (s ∷ ss) e =
 
 pub steps-whole : (ss : List Step) → StepsNoZeros ss → whole (words-of-steps ss) ≡ true
 steps-whole ss e = rw (steps-ended ss, steps-part ss e)
+
+-- ════════ No more clauses or steps than words ════════
+
+front-fewer : (w : ℤ) (cs : List Clause) (n : ℕ) → length cs ≤ n → length (in-front w cs) ≤ suc n
+front-fewer w [] n h = omega arith
+front-fewer w (c ∷ cs) n h = omega arith
+
+pub clauses-fewer : (ws : List ℤ) → length (clauses-of ws) ≤ length ws
+clauses-fewer [] = omega arith
+clauses-fewer (pos zero ∷ ws) = omega (arith, clauses-fewer ws)
+clauses-fewer (pos (suc n) ∷ ws) = front-fewer (pos (suc n)) (clauses-of ws) (length ws) (clauses-fewer ws)
+clauses-fewer (negsuc n ∷ ws) = front-fewer (negsuc n) (clauses-of ws) (length ws) (clauses-fewer ws)
+
+paired-fewer : (cs : List Clause) → length (paired cs) ≤ length cs
+paired-fewer [] = omega arith
+paired-fewer (c ∷ []) = omega arith
+paired-fewer (c ∷ d ∷ cs) = omega (arith, paired-fewer cs)
+
+pub steps-fewer : (ws : List ℤ) → length (steps-of ws) ≤ length ws
+steps-fewer ws = omega (arith, clauses-fewer ws, paired-fewer (clauses-of ws))

@@ -1,56 +1,22 @@
 -- Each outcome of the judge meets its promise. Assumes nothing.
 use mathlib.Core.Path.{_≡_, refl, sym, _∙_}
-use mathlib.Core.Bool.{Bool, true, false, cond}
-use mathlib.Core.List.{List, [], _∷_, _++_}
+use mathlib.Core.Bool.{true}
+use mathlib.Core.List.{List}
 use Prim.Native.Nat.{ℕ, suc, _+_, _<_, _≤_}
 use native.Mathlib.Numerals.{add-one}
 use native.Mathlib.Omega.{arith}
 use borrow.Author.Tests.{le-leb, lt-leb}
 use lib.IntN.{ℤ}
 use lib.ListN.{length, replicate}
-use Rattle.clauses.proofs.Satisfaction.{first-true, second-true, both-true, all-of-append}
-use Rattle.clauses.proofs.Answers.{first-failing-passed, number-of}
-use Rattle.clauses.specs.Lists.{all-of, written}
-use Rattle.clauses.specs.Answers.{Answer, Check, first-failing, granted, bad-cnf, bad-refutation}
-use Rattle.clauses.specs.Clauses.{Clause}
+use Rattle.clauses.proofs.Answers.{first-failing-passed, number-of, refused-anyway, steps-judged}
+use Rattle.clauses.specs.Lists.{written}
+use Rattle.clauses.specs.Answers.{first-failing, granted, bad-cnf, bad-refutation}
 use Rattle.clauses.specs.CnfWords.{clauses-of, cnf-checks}
-use Rattle.clauses.specs.Refutations.{Step, steps-of, refutation-checks, area-checks, step-checks, judge-steps, judge-clauses, judge-cnf, judged, area-after}
+use Rattle.clauses.specs.Refutations.{steps-of, refutation-checks, area-checks, judge-steps, judge-clauses, judge-cnf, judged, area-after}
 use Rattle.refutation.specs.declared.Judgement.{Judgement}
 use Rattle.refutation.specs.declared.Judgement.the-variants.{BadCnf, BadRefutation, AreaTooSmall}
 use Rattle.refutation.specs.Promise.{answer-of, Judged}
 use Rattle.refutation.specs.Work.{CnfRight, StepsRight}
-
--- A refusal does not depend on what comes after the checks.
-pub refused-anyway : (cs : List Check) (a b : Answer) {x : Answer} → x ≡ first-failing cs a → (x ≡ a → ⊥) → x ≡ first-failing cs b
-refused-anyway [] a b e n = absurd (n e)
-refused-anyway (c ∷ cs) a b {x} e n = go (c .passes) e (λ f. refused-anyway cs a b f n)
-  where
-    go : (t : Bool) → x ≡ cond t (first-failing cs a) (c .otherwise) → (x ≡ first-failing cs a → x ≡ first-failing cs b)
-        → x ≡ cond t (first-failing cs b) (c .otherwise)
-    go true f later = later f
-    go false f later = f
-
--- ════════ Steps that were judged ════════
-
-abbrev judged-check : Check → Bool
-judged-check c = judged (c .otherwise)
-
-judged-first : (cs : List Check) (after : Answer) → all-of judged-check cs ≡ true → judged after ≡ true → judged (first-failing cs after) ≡ true
-judged-first [] after e a = a
-judged-first (c ∷ cs) after e a =
-    go (c .passes) (first-true (judged-check c) (all-of judged-check cs) e) (judged-first cs after (second-true (judged-check c) (all-of judged-check cs) e) a)
-  where
-    go : (b : Bool) → judged (c .otherwise) ≡ true → judged (first-failing cs after) ≡ true → judged (cond b (first-failing cs after) (c .otherwise)) ≡ true
-    go true o rest = rest
-    go false o rest = o
-
-step-checks-judged : (cs : List Clause) (i : ℕ) (ss : List Step) → all-of judged-check (step-checks cs i ss) ≡ true
-step-checks-judged cs i [] = refl
-step-checks-judged cs i (s ∷ ss) = step-checks-judged _ (suc i) ss
-
-pub steps-judged : (cs : List Clause) (ss : List Step) → judged (judge-steps cs ss) ≡ true
-unfolding judge-steps
-steps-judged cs ss = judged-first (step-checks cs 0 ss ++ _) (granted 0) (rw all-of-append (both-true (step-checks-judged cs 0 ss) refl)) refl
 
 -- ════════ The outcomes ════════
 

@@ -1,15 +1,17 @@
 -- `checker::judge::before_writing` meets its contract. Assumes nothing.
 use mathlib.Core.Path.{_≡_, sym, _∙_, ap}
+use mathlib.Core.Bool.{true}
 use Prim.Native.Nat.{_+_, _<_, _≤_}
 use native.Mathlib.Omega.{arith}
 use borrow.Author.Needs.{needs}
 use lib.ListN.{length}
 use Rattle.clauses.specs.Limits.{variables-limit}
 use Rattle.clauses.specs.Answers.{bad-refutation}
-use Rattle.clauses.specs.Refutations.{steps-of}
+use Rattle.clauses.specs.Lists.{all-of}
+use Rattle.clauses.specs.Refutations.{steps-of, refutation-checks}
 use Rattle.refutation.specs.Promise.{counted-answer}
-use Rattle.refutation.specs.Work.{StepsRight}
-use Rattle.refutation.proofs.RightWords.{steps-counted, steps-fewer}
+use Rattle.clauses.proofs.Answers.{passing, steps-counted}
+use Rattle.clauses.proofs.ReadBack.{steps-fewer}
 use Rattle.encoder.specs.declared.Counts.{Counts}
 use Rattle.encoder.specs.declared.Counted.the-variants.{Good}
 use Rattle.encoder.specs.Promise.{CountedAs}
@@ -38,7 +40,7 @@ room-there : (s : tie.After-known-told3) → counts (counting s) .words ≤ star
 room-there s = tested s .if1 .left
 
 steps-right : (s : tie.After-known-told3)
-    → StepsRight (counts (counting s) .variables) (counts (counting s) .clauses) (start (counting s) .args .refutation .now)
+    → (all-of passing (refutation-checks (counts (counting s) .variables) (counts (counting s) .clauses) (start (counting s) .args .refutation .now)) ≡ true)
     × (s .before .s .given .0 .0 ≡ length (steps-of (start (counting s) .args .refutation .now)))
 steps-right s =
     steps-counted (counts (counting s) .variables) (counts (counting s) .clauses) (start (counting s) .args .refutation .now)

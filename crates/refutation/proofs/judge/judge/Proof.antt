@@ -9,7 +9,8 @@ use Rattle.clauses.specs.CnfWords.{clauses-of}
 use Rattle.clauses.specs.Refutations.{steps-of}
 use Rattle.refutation.specs.Promise.{counted-answer}
 use Rattle.refutation.specs.Work.{CnfRight, StepsRight}
-use Rattle.refutation.proofs.RightWords.{cnf-counted, steps-counted, clauses-fewer, steps-fewer}
+use Rattle.clauses.proofs.Answers.{cnf-counted, steps-counted}
+use Rattle.clauses.proofs.ReadBack.{clauses-fewer, steps-fewer}
 use Rattle.refutation.proofs.Judgements.{refused-16, refused-11, few-numbers, few-clauses, all-judged}
 use Rattle.refutation.proofs.judge.judge.Statement.{statement}
 use Rattle.refutation.proofs.judge.judge.Tie as tie
