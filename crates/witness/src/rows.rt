@@ -5,12 +5,14 @@ use problem::limits::GATES_LIMIT;
 use problem::limits::INPUTS_LIMIT;
 use problem::limits::LATCHES_LIMIT;
 use problem::read::gate_left;
+use problem::read::gate_place;
 use problem::read::gate_right;
 use problem::read::latch_next;
+use problem::read::node_place;
 ghost use mathlib.Core.Path.{_≡_};
 ghost use mathlib.Core.Bool.{false};
 ghost use mathlib.Core.List.{_∷_, _++_};
-ghost use Prim.Native.Nat.{_+_, _*_, _<_, _≤_};
+ghost use Prim.Native.Nat.{_+_, _*_, _/_, _<_, _≤_};
 ghost use lib.ListN.{length, take, drop};
 ghost use Rattle.meaning.specs.Problem.{W, latch, gate, problem};
 ghost use Rattle.meaning.specs.Runs.{literal-value, gate-value, with-gates};
@@ -32,6 +34,15 @@ pub(crate) const LATCHES_AT: usize = 1;
 // "bytes are 0 or 1"
 pub(crate) const TRUE: u8 = 1;
 
+// The value of a literal whose variable the row has. No branch: nothing foretells a value, and a wrong guess costs more than the value.
+fn literal_within(row: &[bool], x: u32) -> bool
+    requires { ⌜ x / 2 < length (now row) ⌝ }
+    ensures { λ r. ⌜ r ≡ literal-value (now (row .entry)) x ⌝ }
+{
+    let v = (x / 2) as usize;
+    row[v] != (x % 2 == 1)
+}
+
 // The value of a literal in a row: narrow and final, since gates take most of the time a witness takes.
 pub(crate) fn literal(row: &[bool], x: u32) -> bool
     ensures { λ r. ⌜ r ≡ literal-value (now (row .entry)) x ⌝ }
@@ -40,15 +51,21 @@ pub(crate) fn literal(row: &[bool], x: u32) -> bool
     if row.len() <= v {
         return x % 2 == 1;
     }
-    if x % 2 == 1 { !row[v] } else { row[v] }
+    literal_within(row, x)
 }
 
-// "A gate is the AND of two literals"
+// "A gate is the AND of two literals". Whether words and row are long enough is the same for every gate, so the test leaves the loop over
+// them; past it the proof stands for every test of a place.
 fn gate(words: &[u32], s: Sizes, row: &[bool], j: u32) -> bool
     requires { ⌜ Ready (now words) s × (j < s .gates) ⌝ }
     ensures { λ r. ⌜ r ≡ gate-value (now (row .entry)) (gate (problem (now (words .entry))) j) ⌝ }
 {
-    literal(row, gate_left(words, s, j)) && literal(row, gate_right(words, s, j))
+    let variables = (s.inputs as usize) + (s.latches as usize) + (s.gates as usize);
+    if (node_place(s, 0) <= words.len()) & (variables < row.len()) {
+        let at = gate_place(s, j);
+        return literal_within(row, words[at]) & literal_within(row, words[at + 1]);
+    }
+    literal(row, gate_left(words, s, j)) & literal(row, gate_right(words, s, j))
 }
 
 // The gates of a row, each over the variables before it.

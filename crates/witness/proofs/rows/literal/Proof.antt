@@ -3,7 +3,6 @@ use mathlib.Core.Bool.{Bool, true, false}
 use mathlib.Core.Path.{_≡_, refl}
 use lib.ListN.{List·getD-eq-default}
 use borrow.Author.Needs.{needs}
-use borrow.Author.Tests.{eq-eqb, ne-eqb}
 use Rattle.meaning.specs.Runs.{turned, odd}
 use Rattle.witness.proofs.rows.literal.Statement.{statement}
 use Rattle.witness.proofs.rows.literal.Tie as tie
@@ -16,27 +15,13 @@ cast-v : tie.Need-cast-v
 cast-v c = search needs
 
 returns : tie.Need-returns
-returns c = rw (List·getD-eq-default _ false (c .if1 .taken)) (turned-false (odd (c .before .args .x)))
+returns c = rw (List·getD-eq-default _ false (c .if1 .taken)) (turned-false (odd (c .before .before .args .x)))
 
-shared-slice-read-result : tie.Need-shared-slice-read-result
-shared-slice-read-result c = search needs
-
-shared-slice-read-result-2 : tie.Need-shared-slice-read-result-2
-shared-slice-read-result-2 c = search needs
+literal-within-requires : tie.Need-literal-within-requires
+literal-within-requires c κs = search needs
 
 returns-2 : tie.Need-returns-2
-returns-2 c = rw (eq-eqb _ 1 (c .before .if2 .taken))
-
-returns-3 : tie.Need-returns-3
-returns-3 c = rw (ne-eqb _ 1 (c .before .if2 .left))
+returns-2 c = search needs
 
 pub literal-spec : {M : Type 1} → statement M
-literal-spec =
-    tie.close
-    (tie.spec
-    cast-v
-    returns
-    shared-slice-read-result
-    shared-slice-read-result-2
-    returns-2
-    returns-3)
+literal-spec = tie.close (tie.spec cast-v returns literal-within-requires returns-2)

@@ -1,0 +1,87 @@
+//! That both versions do the same job: on damaged requests they give the same answers and leave the same buffers.
+
+use crate::plain::Answer;
+use crate::random::Random;
+use crate::work::circuits::{Shown, VERSION};
+use crate::work::refuted::Refuted;
+use crate::{plain, proved};
+use std::collections::BTreeSet;
+
+/// How often each request is damaged.
+const TIMES: usize = 100;
+
+/// A buffer that is empty, cut short, has a word too many, or another word in one place.
+fn damaged<T: Copy>(random: &mut Random, words: &[T], word: impl Fn(&mut Random) -> T) -> Vec<T> {
+    let mut words = words.to_vec();
+    let place = random.below(words.len());
+    match random.below(16) {
+        0 => words.clear(),
+        1 => words.truncate(place),
+        2 => words.push(word(random)),
+        _ => words[place] = word(random),
+    }
+    words
+}
+
+fn problem_word(random: &mut Random) -> u32 {
+    random.below(3_000) as u32
+}
+
+/// The numbers of the answers that came.
+type Numbers = BTreeSet<u32>;
+
+fn same(numbers: &mut Numbers, proved: Answer, plain: Answer) {
+    assert_eq!(proved, plain, "both give one answer");
+    numbers.insert(proved.number);
+}
+
+pub fn witnesses(random: &mut Random, shown: &Shown) -> Numbers {
+    let mut numbers = Numbers::new();
+    for _ in 0..TIMES {
+        let (mut words, mut witness) = (shown.words.clone(), shown.witness.clone());
+        if random.one_in(2) {
+            words = damaged(random, &words, problem_word);
+        } else {
+            witness = damaged(random, &witness, |random| random.below(3) as u8);
+        }
+        let proved = proved::judge_witness(VERSION, &words, &witness);
+        same(&mut numbers, proved, plain::witness::judge(VERSION, &words, &witness));
+    }
+    numbers
+}
+
+pub fn cnfs(random: &mut Random, words: &[u32], room: usize) -> Numbers {
+    let mut numbers = Numbers::new();
+    for _ in 0..TIMES {
+        let words = damaged(random, words, problem_word);
+        let room = vec![7; room - random.below(2)];
+        let (mut proved_room, mut plain_room) = (room.clone(), room);
+        let proved = proved::write_cnf(VERSION, &words, &mut proved_room);
+        same(&mut numbers, proved, plain::cnf::write(VERSION, &words, &mut plain_room));
+        assert!(proved_room == plain_room, "both leave one room");
+    }
+    numbers
+}
+
+pub fn refutations(random: &mut Random, of: &Refuted) -> Numbers {
+    let mut numbers = Numbers::new();
+    let literal =
+        |random: &mut Random| random.below(2 * of.variables as usize + 3) as i32 - of.variables as i32 - 1;
+    for _ in 0..TIMES {
+        let (mut cnf, mut refutation) = (of.cnf.clone(), of.refutation.clone());
+        if random.one_in(4) {
+            cnf = damaged(random, &cnf, literal);
+        } else {
+            refutation = damaged(random, &refutation, literal);
+        }
+        let areas =
+            (vec![7; of.variables as usize + 1], vec![7; of.clauses + of.steps + 1 - random.below(3)]);
+        let (mut proved_areas, mut plain_areas) = (areas.clone(), areas);
+        let (values, places) = &mut proved_areas;
+        let proved = proved::judge_refutation(of.variables, &cnf, &refutation, values, places);
+        let (values, places) = &mut plain_areas;
+        same(&mut numbers, proved, plain::refutation::judge(of.variables, &cnf, &refutation, values, places));
+        assert!(proved_areas == plain_areas, "both leave the same work areas");
+    }
+    numbers
+}

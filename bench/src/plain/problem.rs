@@ -1,0 +1,114 @@
+//! A problem's words, checked and lent in parts: answers 15 and 1 to 5.
+
+use super::{answer, Answer};
+
+pub const ATOM: u32 = 0;
+pub const AND: u32 = 1;
+pub const OR: u32 = 2;
+pub const NEXT: u32 = 3;
+pub const FINALLY: u32 = 4;
+pub const GLOBALLY: u32 = 5;
+pub const UNTIL: u32 = 6;
+pub const RELEASE: u32 = 7;
+
+const HEADER: usize = 5;
+
+/// How many children each op has.
+const CHILDREN: [usize; 8] = [0, 2, 2, 1, 1, 1, 2, 2];
+
+/// The limits of I, L, A, N, k.
+const LEAST: [u32; HEADER] = [0, 0, 0, 1, 0];
+pub const MOST: [u32; HEADER] = [64, 64, 1024, 64, 31];
+
+#[derive(Clone, Copy)]
+pub struct Problem<'a> {
+    pub inputs: usize,
+    /// Next literal and reset.
+    pub latches: &'a [[u32; 2]],
+    pub gates: &'a [[u32; 2]],
+    /// Op, a, b.
+    pub nodes: &'a [[u32; 3]],
+    pub bound: usize,
+}
+
+impl Problem<'_> {
+    /// W, the number of circuit variables.
+    pub fn width(&self) -> usize {
+        self.inputs + self.latches.len() + self.gates.len()
+    }
+}
+
+/// In the fixed order: version, 5 words, limits, length, then every word in order.
+pub fn check(version: u32, words: &[u32]) -> Result<Problem<'_>, Answer> {
+    if version != 1 {
+        return Err(answer(15, 0));
+    }
+    let Some((&header, rest)) = words.split_first_chunk::<HEADER>() else {
+        return Err(answer(1, words.len()));
+    };
+    if let Some(place) = (0..HEADER).find(|&at| header[at] < LEAST[at] || header[at] > MOST[at]) {
+        return Err(answer(2, place));
+    }
+    let [inputs, latches, gates, nodes, bound] = header.map(|word| word as usize);
+    if rest.len() != 2 * latches + 2 * gates + 3 * nodes {
+        return Err(answer(1, words.len()));
+    }
+    let (latch_words, rest) = rest.split_at(2 * latches);
+    let (gate_words, node_words) = rest.split_at(2 * gates);
+    let (latches, gates, nodes) =
+        (latch_words.as_chunks().0, gate_words.as_chunks().0, node_words.as_chunks().0);
+    let problem = Problem { inputs, latches, gates, nodes, bound };
+    check_latches(&problem)?;
+    check_gates(&problem)?;
+    check_nodes(&problem)?;
+    Ok(problem)
+}
+
+fn check_latches(problem: &Problem) -> Result<(), Answer> {
+    let most = 2 * problem.width() as u32 + 1;
+    for (i, &[next, reset]) in problem.latches.iter().enumerate() {
+        let at = HEADER + 2 * i;
+        if next > most {
+            return Err(answer(4, at));
+        }
+        if reset > 2 {
+            return Err(answer(3, at + 1));
+        }
+    }
+    Ok(())
+}
+
+fn check_gates(problem: &Problem) -> Result<(), Answer> {
+    let from = HEADER + 2 * problem.latches.len();
+    let first = problem.inputs + problem.latches.len() + 1;
+    for (j, &[left, right]) in problem.gates.iter().enumerate() {
+        let own = 2 * (first + j) as u32;
+        let at = from + 2 * j;
+        if left >= own {
+            return Err(answer(4, at));
+        }
+        if right >= own {
+            return Err(answer(4, at + 1));
+        }
+    }
+    Ok(())
+}
+
+fn check_nodes(problem: &Problem) -> Result<(), Answer> {
+    let from = HEADER + 2 * (problem.latches.len() + problem.gates.len());
+    // Whatever stands below these is right; a child is below its node's number.
+    let literals = 2 * problem.width() as u32 + 2;
+    for (n, &[op, a, b]) in problem.nodes.iter().enumerate() {
+        let at = from + 3 * n;
+        let Some(&children) = CHILDREN.get(op as usize) else {
+            return Err(answer(5, at));
+        };
+        if a >= if op == ATOM { literals } else { n as u32 } {
+            return Err(answer(5, at + 1));
+        }
+        if b >= if children == 2 { n as u32 } else { 1 } {
+            return Err(answer(5, at + 2));
+        }
+    }
+    Ok(())
+}

@@ -1,0 +1,144 @@
+//! The judge of a witness: answers 15, 1 to 5, and 7 to 10.
+
+use super::problem::*;
+use super::{answer, Answer, YES};
+
+pub fn judge(version: u32, words: &[u32], witness: &[u8]) -> Answer {
+    judged(version, words, witness).err().unwrap_or(YES)
+}
+
+fn judged(version: u32, words: &[u32], witness: &[u8]) -> Result<(), Answer> {
+    let problem = check(version, words)?;
+    check_bytes(&problem, witness)?;
+    let rows = run(&problem, witness);
+    let start = (witness[0] as usize).checked_sub(1);
+    if let Some(start) = start {
+        check_loop(&problem, &rows, start)?;
+    }
+    if formula(&problem, &rows, start) {
+        Ok(())
+    } else {
+        Err(answer(10, 0))
+    }
+}
+
+/// 7: the length, then the bytes in order; 8: the latches against their resets.
+fn check_bytes(problem: &Problem, witness: &[u8]) -> Result<(), Answer> {
+    let latches = problem.latches.len();
+    if witness.len() != 1 + latches + problem.inputs * (problem.bound + 1) {
+        return Err(answer(7, witness.len()));
+    }
+    if witness[0] as usize > problem.bound + 1 {
+        return Err(answer(7, 0));
+    }
+    if let Some(bad) = witness[1..].iter().position(|&byte| byte > 1) {
+        return Err(answer(7, 1 + bad));
+    }
+    for (i, (&[_, reset], &byte)) in problem.latches.iter().zip(&witness[1..]).enumerate() {
+        if reset != 2 && reset != u32::from(byte) {
+            return Err(answer(8, 1 + i));
+        }
+    }
+    Ok(())
+}
+
+/// The value of a literal in a row of the variables 0..W.
+fn value(row: &[bool], literal: u32) -> bool {
+    row[literal as usize / 2] != (literal % 2 == 1)
+}
+
+/// The values of the variables 0..W at each position, one row after the other.
+fn run(problem: &Problem, witness: &[u8]) -> Vec<bool> {
+    let (inputs, latches) = (problem.inputs, problem.latches.len());
+    let width = problem.width() + 1;
+    let mut rows = vec![false; (problem.bound + 1) * width];
+    let first = 1 + inputs + latches;
+    for (bit, &byte) in rows[1 + inputs..first].iter_mut().zip(&witness[1..]) {
+        *bit = byte == 1;
+    }
+    for t in 0..=problem.bound {
+        let (row, after) = rows[t * width..].split_at_mut(width);
+        let bytes = &witness[1 + latches + t * inputs..][..inputs];
+        for (bit, &byte) in row[1..].iter_mut().zip(bytes) {
+            *bit = byte == 1;
+        }
+        for (j, &[left, right]) in problem.gates.iter().enumerate() {
+            row[first + j] = value(row, left) & value(row, right);
+        }
+        if t < problem.bound {
+            for (bit, &[next, _]) in after[1 + inputs..].iter_mut().zip(problem.latches) {
+                *bit = value(row, next);
+            }
+        }
+    }
+    rows
+}
+
+/// 9: the first latch whose next value at k is not its value at the loop's start.
+fn check_loop(problem: &Problem, rows: &[bool], start: usize) -> Result<(), Answer> {
+    let width = problem.width() + 1;
+    let last = &rows[problem.bound * width..];
+    let here = &rows[start * width + 1 + problem.inputs..];
+    for (i, (&[next, _], &bit)) in problem.latches.iter().zip(here).enumerate() {
+        if value(last, next) != bit {
+            return Err(answer(9, i));
+        }
+    }
+    Ok(())
+}
+
+/// A node's values from the last position down; `of` gives one from its position and the node's value at the next.
+fn pass(row: &mut [bool], end: bool, of: impl Fn(usize, bool) -> bool) {
+    let mut later = end;
+    for (i, bit) in row.iter_mut().enumerate().rev() {
+        later = of(i, later);
+        *bit = later;
+    }
+}
+
+/// U and R: on a lasso a first pass finds the value at the loop's start, which is then the one past the last position.
+fn passes(row: &mut [bool], end: bool, start: Option<usize>, of: impl Fn(usize, bool) -> bool) {
+    let Some(start) = start else {
+        return pass(row, false, of);
+    };
+    pass(row, end, &of);
+    pass(row, row[start], of);
+}
+
+/// Whether the formula, the last node, is true at position 0.
+fn formula(problem: &Problem, rows: &[bool], start: Option<usize>) -> bool {
+    let width = problem.width() + 1;
+    let positions = problem.bound + 1;
+    let mut truth = vec![false; problem.nodes.len() * positions];
+    for (n, &[op, a, b]) in problem.nodes.iter().enumerate() {
+        let (below, row) = truth.split_at_mut(n * positions);
+        let row = &mut row[..positions];
+        let child = |c: u32| &below[c as usize * positions..][..positions];
+        match op {
+            ATOM => pass(row, false, |i, _| value(&rows[i * width..][..width], a)),
+            NEXT => {
+                let f = child(a);
+                row[..problem.bound].copy_from_slice(&f[1..]);
+                row[problem.bound] = start.is_some_and(|l| f[l]);
+            }
+            FINALLY | GLOBALLY => {
+                let f = child(a);
+                if op == FINALLY {
+                    passes(row, false, start, |i, later| f[i] | later);
+                } else {
+                    passes(row, true, start, |i, later| f[i] & later);
+                }
+            }
+            _ => {
+                let (f, g) = (child(a), child(b));
+                match op {
+                    AND => pass(row, false, |i, _| f[i] & g[i]),
+                    OR => pass(row, false, |i, _| f[i] | g[i]),
+                    UNTIL => passes(row, false, start, |i, later| g[i] | (f[i] & later)),
+                    _ => passes(row, true, start, |i, later| g[i] & (f[i] | later)),
+                }
+            }
+        }
+    }
+    truth[(problem.nodes.len() - 1) * positions]
+}

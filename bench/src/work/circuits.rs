@@ -1,0 +1,132 @@
+//! Problems with every size at its limit: random circuits, random formulas, and runs that show them.
+
+use crate::plain::problem::*;
+use crate::plain::{witness, YES};
+use crate::random::Random;
+
+pub const VERSION: u32 = 1;
+
+const INPUTS: usize = MOST[0] as usize;
+const LATCHES: usize = MOST[1] as usize;
+const GATES: usize = MOST[2] as usize;
+const NODES: usize = MOST[3] as usize;
+const BOUND: usize = MOST[4] as usize;
+
+const FIRST_GATE: usize = 1 + INPUTS + LATCHES;
+const VARIABLES: usize = FIRST_GATE + GATES;
+
+/// A problem's words and a witness of it.
+pub struct Shown {
+    pub words: Vec<u32>,
+    pub witness: Vec<u8>,
+}
+
+fn turned(random: &mut Random, variable: usize) -> u32 {
+    (2 * variable + random.below(2)) as u32
+}
+
+fn words(latches: &[[u32; 2]], gates: &[[u32; 2]], nodes: &[[u32; 3]]) -> Vec<u32> {
+    [&MOST[..], latches.as_flattened(), gates.as_flattened(), nodes.as_flattened()].concat()
+}
+
+fn bits(random: &mut Random, count: usize) -> Vec<u8> {
+    (0..count).map(|_| random.below(2) as u8).collect()
+}
+
+/// Gates over all that comes before them.
+fn gates(random: &mut Random) -> Vec<[u32; 2]> {
+    let side = |random: &mut Random, own: usize| random.below(2 * own) as u32;
+    (FIRST_GATE..VARIABLES).map(|own| [side(random, own), side(random, own)]).collect()
+}
+
+/// The inputs and the first quarter of the gates, which read nothing else.
+fn over_inputs(random: &mut Random, gates: usize) -> u32 {
+    let n = random.below(INPUTS + gates);
+    turned(random, if n < INPUTS { 1 + n } else { FIRST_GATE + n - INPUTS })
+}
+
+/// As many nodes as there may be, each named by a later one but the last.
+fn formula(random: &mut Random) -> Vec<[u32; 3]> {
+    let mut open: Vec<u32> = vec![];
+    let node = |n: usize| {
+        let left = NODES - n;
+        let node = if open.len() < left && (open.is_empty() || random.one_in(4)) {
+            [ATOM, random.below(2 * VARIABLES) as u32, 0]
+        } else if open.len() > left || (open.len() > 1 && random.one_in(2)) {
+            let a = open.swap_remove(random.below(open.len()));
+            let b = open.swap_remove(random.below(open.len()));
+            [random.pick(&[AND, OR, UNTIL, RELEASE]), a, b]
+        } else {
+            let a = open.swap_remove(random.below(open.len()));
+            let other = random.below(n) as u32;
+            match random.pick(&[AND, OR, NEXT, FINALLY, GLOBALLY, UNTIL, RELEASE]) {
+                op @ (NEXT | FINALLY | GLOBALLY) => [op, a, 0],
+                op if random.one_in(2) => [op, a, other],
+                op => [op, other, a],
+            }
+        };
+        open.push(n as u32);
+        node
+    };
+    (0..NODES).map(node).collect()
+}
+
+/// The bytes of a run, its latches by their resets.
+fn bytes(random: &mut Random, first: usize, latches: &[[u32; 2]], inputs: &[Vec<u8>]) -> Vec<u8> {
+    let mut bytes = vec![first as u8];
+    for &[_, reset] in latches {
+        bytes.push(if reset < 2 { reset as u8 } else { random.below(2) as u8 });
+    }
+    bytes.extend(inputs.concat());
+    bytes
+}
+
+fn prefix(random: &mut Random) -> Shown {
+    let latch = |random: &mut Random| [random.below(2 * VARIABLES) as u32, random.below(3) as u32];
+    let latches: Vec<_> = (0..LATCHES).map(|_| latch(random)).collect();
+    let words = words(&latches, &gates(random), &formula(random));
+    let inputs: Vec<_> = (0..=BOUND).map(|_| bits(random, INPUTS)).collect();
+    Shown { words, witness: bytes(random, 0, &latches, &inputs) }
+}
+
+/// A latch's next value rests on the inputs alone, so that the loop closes where the inputs at k are those before its start.
+fn lasso(random: &mut Random) -> Shown {
+    let mut gates = gates(random);
+    for (n, gate) in gates[..GATES / 4].iter_mut().enumerate() {
+        *gate = [over_inputs(random, n), over_inputs(random, n)];
+    }
+    let latch = |random: &mut Random| [over_inputs(random, GATES / 4), random.below(3) as u32];
+    let latches: Vec<_> = (0..LATCHES).map(|_| latch(random)).collect();
+    let words = words(&latches, &gates, &formula(random));
+    let mut inputs: Vec<_> = (0..=BOUND).map(|_| bits(random, INPUTS)).collect();
+    let start = random.between(1, BOUND);
+    inputs[BOUND] = inputs[start - 1].clone();
+    Shown { words, witness: bytes(random, start + 1, &latches, &inputs) }
+}
+
+fn witnesses(seed: u64, count: usize, make: fn(&mut Random) -> Shown) -> Vec<Shown> {
+    let mut random = Random::new(seed);
+    let made = std::iter::repeat_with(|| make(&mut random));
+    let shows = |shown: &Shown| witness::judge(VERSION, &shown.words, &shown.witness) == YES;
+    made.filter(shows).take(count).collect()
+}
+
+/// So many problems, each with a prefix that is a witness.
+pub fn prefixes(seed: u64, count: usize) -> Vec<Shown> {
+    witnesses(seed, count, prefix)
+}
+
+/// So many problems, each with a lasso that is a witness.
+pub fn lassos(seed: u64, count: usize) -> Vec<Shown> {
+    witnesses(seed, count, lasso)
+}
+
+/// The words of a problem whose CNF is as long as one can be: every reset fixed, and U or R nodes over one atom.
+pub fn largest(seed: u64) -> Vec<u32> {
+    let random = &mut Random::new(seed);
+    let latch = |random: &mut Random| [random.below(2 * VARIABLES) as u32, random.below(2) as u32];
+    let latches: Vec<_> = (0..LATCHES).map(|_| latch(random)).collect();
+    let mut nodes = vec![[ATOM, random.below(2 * VARIABLES) as u32, 0]];
+    nodes.extend((1..NODES as u32).map(|n| [random.pick(&[UNTIL, RELEASE]), 0, n - 1]));
+    words(&latches, &gates(random), &nodes)
+}

@@ -1,0 +1,5 @@
+//! What the calls are timed on. A seed names it for good.
+
+pub mod circuits;
+pub mod refuted;
+mod solver;
