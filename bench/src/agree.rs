@@ -1,5 +1,6 @@
-//! That both versions do the same job: on damaged requests they give the same answers and leave the same buffers.
+//! That both versions do the same job: on damaged requests, and on other runs, they give the same answers and leave the same buffers.
 
+use crate::plain::problem::MOST;
 use crate::plain::Answer;
 use crate::random::Random;
 use crate::work::circuits::{Shown, VERSION};
@@ -7,8 +8,14 @@ use crate::work::refuted::Refuted;
 use crate::{plain, proved};
 use std::collections::BTreeSet;
 
+/// A version that no problem has.
+const UNKNOWN: u32 = 0;
+
+/// Where the inputs begin in a witness.
+const INPUTS_FROM: usize = 1 + MOST[1] as usize;
+
 /// How often each request is damaged.
-const TIMES: usize = 100;
+const TIMES: usize = 200;
 
 /// A buffer that is empty, cut short, has a word too many, or another word in one place.
 fn damaged<T: Copy>(random: &mut Random, words: &[T], word: impl Fn(&mut Random) -> T) -> Vec<T> {
@@ -39,13 +46,14 @@ pub fn witnesses(random: &mut Random, shown: &Shown) -> Numbers {
     let mut numbers = Numbers::new();
     for _ in 0..TIMES {
         let (mut words, mut witness) = (shown.words.clone(), shown.witness.clone());
-        if random.one_in(2) {
-            words = damaged(random, &words, problem_word);
-        } else {
-            witness = damaged(random, &witness, |random| random.below(3) as u8);
+        match random.below(3) {
+            0 => words = damaged(random, &words, problem_word),
+            1 => witness = damaged(random, &witness, |random| random.below(3) as u8),
+            _ => witness[INPUTS_FROM..].fill_with(|| random.below(2) as u8),
         }
-        let proved = proved::judge_witness(VERSION, &words, &witness);
-        same(&mut numbers, proved, plain::witness::judge(VERSION, &words, &witness));
+        let version = if random.one_in(50) { UNKNOWN } else { VERSION };
+        let proved = proved::judge_witness(version, &words, &witness);
+        same(&mut numbers, proved, plain::witness::judge(version, &words, &witness));
     }
     numbers
 }
