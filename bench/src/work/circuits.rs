@@ -39,7 +39,7 @@ fn gates(random: &mut Random) -> Vec<[u32; 2]> {
     (FIRST_GATE..VARIABLES).map(|own| [side(random, own), side(random, own)]).collect()
 }
 
-/// The inputs and the first quarter of the gates, which read nothing else.
+/// A literal of an input or of one of the first gates, so many, that read nothing but such literals.
 fn over_inputs(random: &mut Random, gates: usize) -> u32 {
     let n = random.below(INPUTS + gates);
     turned(random, if n < INPUTS { 1 + n } else { FIRST_GATE + n - INPUTS })
