@@ -3,8 +3,8 @@
 use crate::plain::problem::MOST;
 use crate::plain::Answer;
 use crate::random::Random;
-use crate::work::circuits::{Shown, VERSION};
-use crate::work::refuted::Refuted;
+use crate::samples::circuits::{Shown, VERSION};
+use crate::samples::refuted::Refuted;
 use crate::{plain, proved};
 use std::collections::BTreeSet;
 

@@ -5,14 +5,14 @@ mod plain;
 mod proved;
 #[path = "../../reference/src/random.rs"]
 mod random;
+mod samples;
 mod timing;
-mod work;
 
 use plain::{answer, YES};
 use random::Random;
+use samples::circuits::{largest, lassos, prefixes, Shown, VERSION};
+use samples::refuted::{self, Refuted};
 use timing::{medians, Medians};
-use work::circuits::{largest, lassos, prefixes, Shown, VERSION};
-use work::refuted::{self, Refuted};
 
 const SEED: u64 = 1;
 
