@@ -1,9 +1,4 @@
 // Each call: its buffers read, the library asked, and the answer printed.
-use crate::answers::checked;
-use crate::answers::encoded;
-use crate::answers::judged;
-use crate::answers::refuted;
-use crate::answers::witnessed;
 use crate::input;
 use crate::input::AREA_WORDS;
 use crate::input::CNF_WORDS;
@@ -55,14 +50,15 @@ pub(crate) fn check(
         Got::Broken(fault) => return Outcome::Broken(fault),
     };
     let problem: &[u32] = problem;
-    print_answer(checked(problem::check::check(version, &problem[0..words])));
+    let r = problem::check::check(version, &problem[0..words]);
+    print_answer(problem::answer::number(r), problem::answer::place(r));
     Outcome::Answered
 }
 
 fn write_filled(version: u32, problem: &[u32], room: &mut [i32]) {
     fill_room(room);
-    let outcome = encoder::encode::write_cnf(version, problem, room);
-    print_room(encoded(outcome), room);
+    let r = encoder::encode::write_cnf(version, problem, room);
+    print_room(encoder::answer::number(r), encoder::answer::place(r), room);
 }
 
 // Reads what is left of the request; as much of the room is lent as it asks for.
@@ -107,8 +103,8 @@ pub(crate) fn judge_witness(
     };
     let problem: &[u32] = problem;
     let witness: &[u8] = witness;
-    let judgement = witness::judge::judge(version, &problem[0..words], &witness[0..size]);
-    print_answer(witnessed(judgement));
+    let r = witness::judge::judge(version, &problem[0..words], &witness[0..size]);
+    print_answer(witness::answer::number(r), witness::answer::place(r));
     Outcome::Answered
 }
 
@@ -121,8 +117,10 @@ fn judge_filled<'a>(
 ) {
     fill_area(by_numbers);
     fill_area(by_clauses);
-    let judgement = refutation::judge::judge(variables, cnf, refutation, by_numbers, by_clauses);
-    print_areas(judged(judgement), by_numbers, by_clauses);
+    let r = refutation::judge::judge(variables, cnf, refutation, by_numbers, by_clauses);
+    let number = refutation::answer::number(r);
+    let place = refutation::answer::place(r);
+    print_areas(number, place, by_numbers, by_clauses);
 }
 
 // Reads what is left of the request; the judge is lent as much of each work area as it asks for.
@@ -190,7 +188,7 @@ fn refute_filled(
     fill_room(room);
     fill_area(by_numbers);
     fill_area(by_clauses);
-    let outcome = checker::judge::judge_refutation(
+    let r = checker::judge::judge_refutation(
         version,
         problem,
         refutation,
@@ -198,7 +196,9 @@ fn refute_filled(
         by_numbers,
         by_clauses,
     );
-    print_all(refuted(outcome), room, by_numbers, by_clauses);
+    let number = checker::answer::number(r);
+    let place = checker::answer::place(r);
+    print_all(number, place, room, by_numbers, by_clauses);
 }
 
 // Reads what is left of the request; as much of each buffer is lent as it asks for.

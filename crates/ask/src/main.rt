@@ -1,5 +1,4 @@
 // Answers requests from standard input: library calls on words that need not be any good.
-mod answers;
 mod calls;
 mod input;
 mod output;
@@ -15,7 +14,7 @@ use crate::input::PROBLEM_WORDS;
 use crate::input::REFUTATION_WORDS;
 use crate::input::WITNESS_BYTES;
 
-// The one place that knows the calls by their numbers.
+// The one place that knows the calls by their numbers. It has nine parameters: no struct may hold the buffers, so each is lent by itself.
 fn dispatch(
     call: u8,
     number: u32,

@@ -1,5 +1,4 @@
 // Lines of text, gathered in a lent buffer. A place is where the next byte goes; a buffer that is full is written out at once.
-use crate::answers::Answer;
 use crate::input::Fault;
 use libc::STDOUT_FILENO;
 use refutation::literals::variable;
@@ -44,13 +43,13 @@ fn put_number(n: u64, at: usize, out: &mut [u8; OUT]) -> usize
 }
 
 // The line that opens an answer.
-fn put_answer(answer: Answer, at: usize, out: &mut [u8; OUT]) -> usize
+fn put_answer(number: u32, place: usize, at: usize, out: &mut [u8; OUT]) -> usize
     requires { ⌜ at < line-bytes ⌝ }
     ensures { λ r. ⌜ r < line-bytes ⌝ }
 {
-    let numbered = put_number(answer.number as u64, at, out);
+    let numbered = put_number(number as u64, at, out);
     let parted = put_byte(b' ', numbered, out);
-    let placed = put_number(answer.place as u64, parted, out);
+    let placed = put_number(place as u64, parted, out);
     put_byte(b'\n', placed, out)
 }
 
@@ -108,33 +107,39 @@ fn finish(at: usize, out: &[u8; OUT])
 }
 
 // An answer that has no buffers.
-pub(crate) fn print_answer(answer: Answer) {
+pub(crate) fn print_answer(number: u32, place: usize) {
     let mut out = [0u8; OUT];
-    let at = put_answer(answer, 0, &mut out);
+    let at = put_answer(number, place, 0, &mut out);
     finish(at, &out);
 }
 
 // An answer and the CNF room.
-pub(crate) fn print_room(answer: Answer, room: &[i32]) {
+pub(crate) fn print_room(number: u32, place: usize, room: &[i32]) {
     let mut out = [0u8; OUT];
-    let answered = put_answer(answer, 0, &mut out);
+    let answered = put_answer(number, place, 0, &mut out);
     let at = put_room(room, answered, &mut out);
     finish(at, &out);
 }
 
 // An answer and both work areas.
-pub(crate) fn print_areas(answer: Answer, by_numbers: &[u64], by_clauses: &[u64]) {
+pub(crate) fn print_areas(number: u32, place: usize, by_numbers: &[u64], by_clauses: &[u64]) {
     let mut out = [0u8; OUT];
-    let answered = put_answer(answer, 0, &mut out);
+    let answered = put_answer(number, place, 0, &mut out);
     let numbers = put_area(by_numbers, answered, &mut out);
     let clauses = put_area(by_clauses, numbers, &mut out);
     finish(clauses, &out);
 }
 
 // An answer, the CNF room and both work areas.
-pub(crate) fn print_all(answer: Answer, room: &[i32], by_numbers: &[u64], by_clauses: &[u64]) {
+pub(crate) fn print_all(
+    number: u32,
+    place: usize,
+    room: &[i32],
+    by_numbers: &[u64],
+    by_clauses: &[u64],
+) {
     let mut out = [0u8; OUT];
-    let answered = put_answer(answer, 0, &mut out);
+    let answered = put_answer(number, place, 0, &mut out);
     let words = put_room(room, answered, &mut out);
     let numbers = put_area(by_numbers, words, &mut out);
     let clauses = put_area(by_clauses, numbers, &mut out);

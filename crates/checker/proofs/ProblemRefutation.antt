@@ -1,48 +1,48 @@
 -- A problem's CNF passes 16, so its refutations are judged as document 01 says; and each outcome of the judge meets its promise.
 -- Assumes nothing.
 use mathlib.Core.Path.{_≡_, refl, sym, _∙_, ap}
-use mathlib.Core.Bool.{Bool, true, false, false≢true}
+use mathlib.Core.Bool.{Bool, true, false, not, cond, true≢false, false≢true}
 use mathlib.Core.List.{List, [], _∷_}
-use Prim.Native.Nat.{ℕ, suc, _+_, _<_, _≤_}
-use native.Mathlib.Numerals.{add-one}
+use Prim.Native.Nat.{ℕ, suc, _<_, _≤_, _^_}
 use native.Mathlib.Omega.{arith}
-use borrow.Author.Tests.{le-leb, lt-leb}
+use borrow.Author.Tests.{le-leb, leb-true}
 use lib.IntN.{ℤ}
-use lib.Dec.{leb}
-use lib.ListN.{length, take}
+use lib.Dec.{leb, eqb}
+use lib.ListN.{length, take, drop, length-append}
 use lib.Seq.{take-append-seam}
 use Rattle.clauses.specs.Limits.{variables-limit}
-use Rattle.clauses.specs.Lists.{all-of, numbered, written}
-use Rattle.clauses.specs.Answers.{Answer, check, first-failing, granted, bad-cnf, bad-refutation, area-too-small}
+use Rattle.clauses.specs.Lists.{all-of, numbered, joined, written}
+use Rattle.clauses.specs.Answers.{Answer, Check, check, first-failing, granted, bad-cnf}
 use Rattle.clauses.specs.Clauses.{Clause, Within, variable-of, literal-within}
 use Rattle.clauses.specs.CnfWords.{ended-by-0, words-of, clauses-of, cnf-checks}
-use Rattle.clauses.specs.Refutations.{steps-of, refutation-checks, area-checks, judge-steps, judge-clauses, judge-cnf, judged, area-after}
+use Rattle.clauses.specs.Refutations.{Part, literals, part-after, own-after, word-checks, steps-of, refutation-checks, area-checks, judge-steps, judge-clauses, judge-cnf, judged, area-after}
 use Rattle.clauses.proofs.Satisfaction.{both-true, first-true, second-true, all-of-append}
-use Rattle.clauses.proofs.Answers.{passing, first-failing-passed, numbered-passing, number-of, refused-anyway, steps-judged}
-use Rattle.clauses.proofs.ReadBack.{clauses-back, words-ended, within-no-zeros, clauses-fewer}
-use Rattle.refutation.specs.declared.Judgement.{Judgement}
-use Rattle.refutation.specs.declared.Judgement.the-variants as judgements
+use Rattle.clauses.proofs.Answers.{passing, first-failing-passed, numbered-passing, number-of, steps-judged}
+use Rattle.clauses.proofs.ReadBack.{clauses-back, words-ended, within-no-zeros}
+use Rattle.refutation.specs.declared.RefutationAnswer.{RefutationAnswer}
+use Rattle.refutation.specs.declared.RefutationAnswer.the-variants as cnf-answers
 use Rattle.refutation.specs.Promise.{answer-of, Judged}
-use Rattle.meaning.specs.Answers.{room-too-small}
 use Rattle.meaning.specs.Problem.{Problem, problem}
 use Rattle.meaning.specs.Check.{WellFormed, Proper}
 use Rattle.meaning.specs.Cnf.{cnf, cnf-words, variables}
-use Rattle.meaning.specs.Calls.{room-checked, write-cnf, room-after-writing, judge-of-cnf, judge-refutation, room-after-judging, numbers-after, clauses-after}
-use Rattle.meaning.proofs.Check.{check-yes, checked-if-well-formed, proper-if-well-formed}
-use Rattle.meaning.proofs.Counts.{variable-count-is, clause-count-is, word-count-is}
+use Rattle.meaning.specs.Calls.{room-check, room-checked, before-steps, judge-refutation, room-after-judging, numbers-after, clauses-after}
+use Rattle.meaning.proofs.ItemByItem.{Every, all-of-joined}
+use Rattle.meaning.proofs.Check.{first-failing-joined, checked-if-well-formed, well-formed-if-checked, proper-if-well-formed}
+use Rattle.meaning.proofs.Counts.{variable-count-is, word-count-is}
 use Rattle.meaning.proofs.Ranges.{literals-within, variables-fit}
 use Rattle.pairing.proofs.AtOrBelow.{problem-refuted}
 use Rattle.problem.specs.declared.Refusal.{Refusal}
 use Rattle.problem.specs.declared.Refusal.the-variants.{BadVersion, BadLength, OutsideLimits, BadReset, BadLiteral, BadNode}
 use Rattle.problem.specs.Promise.{refusal-answer}
-use Rattle.problem.proofs.Whole.{refused-whatever}
-use Rattle.encoder.specs.declared.Encoded.{Encoded}
+use Rattle.problem.proofs.Formed.{passes-if-handed-on}
 use Rattle.encoder.specs.declared.Counts.{Counts}
-use Rattle.encoder.specs.declared.Counted.the-variants.{Good, Refused}
-use Rattle.encoder.specs.Promise.{EncodedAs, CountedAs}
+use Rattle.encoder.specs.declared.Prepared.{Prepared}
+use Rattle.encoder.specs.declared.Prepared.the-variants as prepared
+use Rattle.encoder.specs.Promise.{counts-of}
+use Rattle.encoder.specs.Preparing.{prepared-then, PreparedAs}
 use Rattle.checker.specs.declared.Refuted.{Refuted}
 use Rattle.checker.specs.declared.Refuted.the-variants as answers
-use Rattle.checker.specs.Refutation.{refuted-answer, refuted-of, RefusedBefore, Passed, JudgedAs}
+use Rattle.checker.specs.Refutation.{refuted-answer, refuted-of, CnfHeld, CnfIn, JudgedFor, JudgedAs}
 
 -- ════════ The words of a CNF pass 16 ════════
 
@@ -79,7 +79,66 @@ module _ (p : Problem) (proper : Proper p) where
   unfolding judge-cnf
   judged-as-clauses refutation m n = first-failing-passed (cnf-checks (variables p) (cnf-words p)) _ cnf-passes ∙ rw cnf-back
 
--- ════════ Before the CNF is written ════════
+-- ════════ 16 never answers for a problem's CNF ════════
+
+-- The check's refusal is not 16.
+abbrev not-16 : Check → Bool
+not-16 c = not (eqb (c .otherwise .number) 16)
+
+from-after : (cs : List Check) (after : Answer) → all-of not-16 cs ≡ true → (first-failing cs after) .number ≡ 16 → after .number ≡ 16
+from-after [] after o e = e
+from-after (c ∷ cs) after o e = go (c .passes) (from-after cs after (second-true (not-16 c) (all-of not-16 cs) o)) e
+  where
+    go : (b : Bool) → ((first-failing cs after) .number ≡ 16 → after .number ≡ 16)
+        → (cond b (first-failing cs after) (c .otherwise)) .number ≡ 16 → after .number ≡ 16
+    go true later e′ = later e′
+    go false later e′ = absurd (true≢false (sym (first-true (not-16 c) (all-of not-16 cs) o) ∙ rw e′))
+
+word-checks-not-16 : (v : ℕ) (p : Part) (own i : ℕ) (ws : List ℤ) → all-of not-16 (word-checks v p own i ws) ≡ true
+word-checks-not-16 v p own i [] = refl
+word-checks-not-16 v p own i (w ∷ ws) = word-checks-not-16 v (part-after p w) (own-after p own w) (suc i) ws
+
+pub clauses-not-16 : (v : ℕ) (cs : List Clause) (ws : List ℤ) (m n : ℕ) → judge-clauses v cs ws m n .number ≡ 16 → ⊥
+unfolding judge-clauses refutation-checks area-checks
+clauses-not-16 v cs ws m n e =
+    let words : all-of not-16 (refutation-checks v (length cs) ws) ≡ true =
+    rw all-of-append (both-true (word-checks-not-16 v literals (suc (length cs)) 0 ws) refl) in
+    let later = from-after (refutation-checks v (length cs) ws) _ words e in
+    let last = from-after (area-checks v cs (steps-of ws) m n) (judge-steps cs (steps-of ws)) refl later in
+    true≢false (sym (steps-judged cs (steps-of ws)) ∙ rw last)
+
+-- ════════ The CNF in the room ════════
+
+-- A judgement that is no 16 has the answer for the problem.
+same-answer : (a : RefutationAnswer) → (answer-of a .number ≡ 16 → ⊥) → refuted-answer (refuted-of a) ≡ answer-of a
+same-answer cnf-answers.Yes e = refl
+same-answer (cnf-answers.BadCnf i) e = absurd (e refl)
+same-answer (cnf-answers.BadRefutation i) e = refl
+same-answer (cnf-answers.AreaTooSmall n) e = refl
+same-answer (cnf-answers.StepRefused i) e = refl
+same-answer (cnf-answers.NotClosed n) e = refl
+
+module _ {p : Problem} {n : Counts} {room : List ℤ} (c : CnfHeld p n room) where
+  variables-are : n .variables ≡ variables p
+  variables-are = rw (c .counted) (sym (variable-count-is p (c .proper .nodes-some)))
+
+  pub variables-few : n .variables ≤ variables-limit
+  variables-few = rw variables-are (variables-fit p (c .proper))
+
+  pub judged-for : {refutation : List ℤ} {numbers clauses : List ℕ} {a : RefutationAnswer} {numbers′ clauses′ : List ℕ}
+      → Judged (n .variables) (take (n .words) room) refutation numbers clauses a numbers′ clauses′
+      → JudgedFor p refutation numbers clauses (refuted-of a) numbers′ clauses′
+  judged-for {refutation} {numbers} {clauses} {a} {numbers′} {clauses′} j =
+      let here : Judged (variables p) (cnf-words p) refutation numbers clauses a numbers′ clauses′ = rw (c .held, variables-are) at j in
+      let is = here .answered ∙ judged-as-clauses p (c .proper) refutation (length numbers) (length clauses) in
+      let same = same-answer a (λ e. clauses-not-16 (variables p) (cnf p) refutation (length numbers) (length clauses) (sym (number-of is) ∙ e)) in
+      record {
+        answered = same ∙ is;
+        numbers-left = here .numbers-left ∙ rw same;
+        clauses-left = here .clauses-left ∙ rw (same, cnf-back p (c .proper));
+      }
+
+-- ════════ The outcomes ════════
 
 refusal-unchanged : (f : Refusal) → judged (refusal-answer f) ≡ false
 refusal-unchanged BadVersion = refl
@@ -89,172 +148,90 @@ refusal-unchanged (BadReset i) = refl
 refusal-unchanged (BadLiteral i) = refl
 refusal-unchanged (BadNode i) = refl
 
--- The numbers of the CNF, which were counted without it.
-module _ {version : ℕ} {ws : List ℕ} {n : Counts} (g : CountedAs version ws (Good n)) where
-  formed : WellFormed version ws
-  formed = (check-yes version ws) .0 (sym (g .answered))
+module _ (version : ℕ) (ws : List ℕ) (refutation room : List ℤ) (numbers clauses : List ℕ) where
+  abbrev Prepares : Prepared → List ℤ → Type 0
+  Prepares = PreparedAs version ws refutation (length numbers) (length clauses) room
 
-  proper-counted : Proper (problem ws)
-  proper-counted = proper-if-well-formed version ws formed
+  abbrev steps-answer : Answer
+  steps-answer = judge-steps (cnf (problem version ws)) (steps-of refutation)
 
-  variables-counted : n .variables ≡ variables (problem ws)
-  variables-counted = rw (g .numbered) (sym (variable-count-is (problem ws) (proper-counted .nodes-some)))
-
-  clauses-counted : n .clauses ≡ length (cnf (problem ws))
-  clauses-counted = rw (g .numbered) (sym (clause-count-is (problem ws)))
-
-  words-counted : n .words ≡ length (cnf-words (problem ws))
-  words-counted = rw (g .numbered) (sym (word-count-is (problem ws)))
-
-  pub few-variables : n .variables ≤ variables-limit
-  few-variables = rw variables-counted (variables-fit (problem ws) proper-counted)
-
-  pub fewer-clauses : n .clauses ≤ n .words
-  fewer-clauses = rw (clauses-counted, words-counted, ← cnf-back (problem ws) proper-counted) (clauses-fewer (cnf-words (problem ws)))
-
-module _ (version : ℕ) (ws : List ℕ) (refutation : List ℤ) (room numbers clauses : ℕ) where
-  abbrev Refuses : Refuted → Type 0
-  Refuses = RefusedBefore version ws refutation room numbers clauses
-
-  abbrev answer-here : Answer
-  answer-here = judge-refutation version ws refutation room numbers clauses
-
-  pub problem-refused : {f : Refusal} → CountedAs version ws (Refused f) → Refuses (answers.Problem f)
-  unfolding judge-refutation
-  problem-refused {f} g = record {
-    answered = refused-whatever version ws f _ (g .answered);
-    unchanged = refusal-unchanged f;
-  }
-
-  module _ (w : WellFormed version ws) where
-    past-check : answer-here ≡ room-checked (problem ws) room (judge-of-cnf (problem ws) refutation numbers clauses)
-    unfolding judge-refutation
-    past-check = checked-if-well-formed version ws _ w
-
-    past-room : length (cnf-words (problem ws)) ≤ room → answer-here ≡ judge-clauses (variables (problem ws)) (cnf (problem ws)) refutation numbers clauses
-    unfolding room-checked judge-of-cnf
-    past-room h = past-check ∙ rw (le-leb (length (cnf-words (problem ws))) room h)
-
-  module _ {n : Counts} (g : CountedAs version ws (Good n)) where
-    pub room-refused : room < n .words → Refuses (answers.RoomTooSmall (n .words))
-    unfolding room-checked
-    room-refused h =
-        let short = lt-leb (length (cnf-words (problem ws))) room (rw (words-counted g) at h) in
-        record { answered = ap room-too-small (words-counted g) ∙ sym (past-check (formed g) ∙ rw short); unchanged = refl }
-
-    module _ (room-there : n .words ≤ room) where
-      past-counts : answer-here
-          ≡ first-failing (refutation-checks (n .variables) (n .clauses) refutation)
-          (first-failing (area-checks (n .variables) (cnf (problem ws)) (steps-of refutation) numbers clauses) (judge-steps (cnf (problem ws)) (steps-of refutation)))
-      unfolding judge-clauses
-      past-counts = rw (variables-counted g, clauses-counted g) (past-room (formed g) (rw (words-counted g) at room-there))
-
-      pub words-refused : {i : ℕ} → bad-refutation i ≡ first-failing (refutation-checks (n .variables) (n .clauses) refutation) (granted (length (steps-of refutation)))
-          → Refuses (answers.BadRefutation i)
-      words-refused e = record {
-        answered =
-            refused-anyway (refutation-checks (n .variables) (n .clauses) refutation) _ _ e
-            (λ f. let z : _≡_ {A = ℕ} 11 0 = number-of f in omega arith)
-            ∙ sym past-counts;
-        unchanged = refl;
-      }
-
-      module _ {s : ℕ} (right : (all-of passing (refutation-checks (n .variables) (n .clauses) refutation) ≡ true) × (s ≡ length (steps-of refutation))) where
-        past-words : answer-here
-            ≡ first-failing (area-checks (n .variables) (cnf (problem ws)) (steps-of refutation) numbers clauses) (judge-steps (cnf (problem ws)) (steps-of refutation))
-        past-words = past-counts ∙ first-failing-passed (refutation-checks (n .variables) (n .clauses) refutation) _ (right .0)
-
-        sum-is : n .clauses + s ≡ length (cnf (problem ws)) + length (steps-of refutation)
-        sum-is = rw (clauses-counted g, right .1)
-
-        pub numbers-refused : numbers < n .variables + 1 → Refuses (answers.AreaTooSmall (n .variables + 1))
-        unfolding area-checks
-        numbers-refused h =
-            rw (add-one (n .variables))
-            (record { answered = sym (past-words ∙ rw (lt-leb (suc (n .variables)) numbers (omega arith))); unchanged = refl })
-
-        module _ (enough : n .variables + 1 ≤ numbers) where
-          pub clauses-refused : clauses < n .clauses + s → Refuses (answers.AreaTooSmall (n .clauses + s))
-          unfolding area-checks
-          clauses-refused h =
-              let short = lt-leb (length (cnf (problem ws)) + length (steps-of refutation)) clauses (rw sum-is at h) in
-              record {
-                answered = ap area-too-small sum-is ∙ sym (past-words ∙ rw (le-leb (suc (n .variables)) numbers (omega arith), short));
-                unchanged = refl;
-              }
-
-          pub all-passed : n .clauses + s ≤ clauses → Passed version ws refutation room numbers clauses (n .variables) (n .words)
-          unfolding area-checks
-          all-passed h =
-              let long = le-leb (length (cnf (problem ws)) + length (steps-of refutation)) clauses (rw sum-is at h) in
-              record {
-                well-formed = formed g;
-                variables-are = variables-counted g;
-                words-are = words-counted g;
-                fits = room-there;
-                by-steps = past-words ∙ rw (le-leb (suc (n .variables)) numbers (omega arith), long);
-              }
-
--- ════════ The outcomes ════════
-
--- A judgement that is no 16 has the answer for the problem.
-same-answer : (j : Judgement) → judged (answer-of j) ≡ true → refuted-answer (refuted-of j) ≡ answer-of j
-same-answer judgements.Yes e = refl
-same-answer (judgements.BadCnf i) e = absurd (false≢true e)
-same-answer (judgements.BadRefutation i) e = refl
-same-answer (judgements.AreaTooSmall n) e = refl
-same-answer (judgements.StepRefused i) e = refl
-same-answer (judgements.NotClosed n) e = refl
-
-module _ {version : ℕ} {ws : List ℕ} {refutation : List ℤ} (room : List ℤ) (numbers clauses : List ℕ) where
-  pub nothing-changed : {r : Refuted} → RefusedBefore version ws refutation (length room) (length numbers) (length clauses) r
-      → JudgedAs version ws refutation room numbers clauses r room numbers clauses
+  -- A refusal before the CNF is written changes nothing.
+  nothing-changed : (r : Refuted) → refuted-answer r ≡ judge-refutation version ws refutation (length room) (length numbers) (length clauses)
+      → judged (refuted-answer r) ≡ false → JudgedAs version ws refutation room numbers clauses r room numbers clauses
   unfolding room-after-judging numbers-after clauses-after area-after
-  nothing-changed b = record {
-    answered = b .answered;
-    room-left = rw (b .unchanged);
-    numbers-left = rw (b .unchanged);
-    clauses-left = rw (b .unchanged);
-    excludes = λ yes. problem-refuted version ws refutation (length room) (length numbers) (length clauses) (sym (b .answered) ∙ ap refuted-answer yes);
+  nothing-changed r is unchanged = record {
+    answered = is;
+    room-left = rw unchanged;
+    numbers-left = rw unchanged;
+    clauses-left = rw unchanged;
+    excludes = λ yes. problem-refuted version ws refutation (length room) (length numbers) (length clauses) (sym is ∙ ap refuted-answer yes);
   }
 
-  module _ {v n : ℕ} (k : Passed version ws refutation (length room) (length numbers) (length clauses) v n) where
-    proper : Proper (problem ws)
-    proper = proper-if-well-formed version ws (k .well-formed)
+  pub problem-refused : {f : Refusal} {room′ : List ℤ} → Prepares (prepared.Problem f) room′ → JudgedAs version ws refutation room numbers clauses (answers.Problem f) room′ numbers clauses
+  unfolding judge-refutation
+  problem-refused {f} a = rw (a .room-after) (nothing-changed (answers.Problem f) (a .answered steps-answer) (refusal-unchanged f))
 
-    fits : length (cnf-words (problem ws)) ≤ length room
-    fits = rw (k .words-are) at (k .fits)
+  pub room-refused : {n : ℕ} {room′ : List ℤ} → Prepares (prepared.RoomTooSmall n) room′ → JudgedAs version ws refutation room numbers clauses (answers.RoomTooSmall n) room′ numbers clauses
+  unfolding judge-refutation
+  room-refused {n} a = rw (a .room-after) (nothing-changed (answers.RoomTooSmall n) (a .answered steps-answer) refl)
 
-    yes-written : write-cnf version ws (length room) ≡ granted (length (cnf-words (problem ws)))
-    unfolding write-cnf room-checked
-    yes-written =
-        checked-if-well-formed version ws _ (k .well-formed)
-        ∙ rw (le-leb (length (cnf-words (problem ws))) (length room) fits)
+  pub words-refused : {i : ℕ} {room′ : List ℤ} → Prepares (prepared.BadRefutation i) room′ → JudgedAs version ws refutation room numbers clauses (answers.BadRefutation i) room′ numbers clauses
+  unfolding judge-refutation
+  words-refused {i} a = rw (a .room-after) (nothing-changed (answers.BadRefutation i) (a .answered steps-answer) refl)
 
-    module _ {e : Encoded} {room′ : List ℤ} (w : EncodedAs version ws room e room′) where
-      room-holds : room′ ≡ written (cnf-words (problem ws)) room
-      unfolding room-after-writing
-      room-holds = w .room-after ∙ rw (w .answered, yes-written)
+  pub area-refused : {n : ℕ} {room′ : List ℤ} → Prepares (prepared.AreaTooSmall n) room′ → JudgedAs version ws refutation room numbers clauses (answers.AreaTooSmall n) room′ numbers clauses
+  unfolding judge-refutation
+  area-refused {n} a = rw (a .room-after) (nothing-changed (answers.AreaTooSmall n) (a .answered steps-answer) refl)
 
-      cnf-held : take n room′ ≡ cnf-words (problem ws)
-      cnf-held = rw (room-holds, k .words-are) (take-append-seam (cnf-words (problem ws)) _)
+  -- Where the CNF is written all that is checked before the steps is right.
+  module _ {n : Counts} {room′ : List ℤ} (a : Prepares (prepared.Written n) room′) where
+    formed : WellFormed version ws
+    formed = well-formed-if-checked version ws _ (number-of (sym (a .answered (granted 0))))
 
-      pub steps-answered : {j : Judgement} {numbers′ clauses′ : List ℕ} → Judged v (take n room′) refutation numbers clauses j numbers′ clauses′
-          → JudgedAs version ws refutation room numbers clauses (refuted-of j) room′ numbers′ clauses′
-      unfolding room-after-judging numbers-after clauses-after
-      steps-answered {j} {numbers′} {clauses′} o =
-          let here : Judged (variables (problem ws)) (cnf-words (problem ws)) refutation numbers clauses j numbers′ clauses′ =
-          rw (cnf-held, k .variables-are) at o in
-          let is : answer-of j ≡ judge-refutation version ws refutation (length room) (length numbers) (length clauses) =
-          here .answered
-          ∙ judged-as-clauses (problem ws) proper refutation (length numbers) (length clauses)
-          ∙ sym (past-room version ws refutation (length room) (length numbers) (length clauses) (k .well-formed) fits) in
-          let yes-judged : judged (answer-of j) ≡ true = rw (is, k .by-steps) (steps-judged (cnf (problem ws)) (steps-of refutation)) in
-          let same = same-answer j yes-judged in
-          record {
-            answered = same ∙ is;
-            room-left = room-holds ∙ rw (same, yes-judged);
-            numbers-left = here .numbers-left ∙ rw same;
-            clauses-left = here .clauses-left ∙ rw (same, cnf-back (problem ws) proper);
-            excludes = λ yes. problem-refuted version ws refutation (length room) (length numbers) (length clauses) (sym (same ∙ is) ∙ ap refuted-answer yes);
-          }
+    proper : Proper (problem version ws)
+    proper = proper-if-well-formed version ws formed
+
+    abbrev words-checks : List Check
+    words-checks = refutation-checks (variables (problem version ws)) (length (cnf (problem version ws))) refutation
+
+    abbrev areas-checks : List Check
+    areas-checks = area-checks (variables (problem version ws)) (cnf (problem version ws)) (steps-of refutation) (length numbers) (length clauses)
+
+    abbrev checks : List (List Check)
+    checks = (room-check (problem version ws) (length room) ∷ []) ∷ words-checks ∷ areas-checks ∷ []
+
+    all-pass : Every (λ part. all-of passing part ≡ true) checks
+    unfolding before-steps room-checked
+    all-pass =
+        all-of-joined passing checks .0
+        (passes-if-handed-on (joined checks) (λ after. a .answered after ∙ checked-if-well-formed version ws _ formed ∙ first-failing-joined checks after))
+
+    words-fit : length (cnf-words (problem version ws)) ≤ length room
+    words-fit = leb-true _ _ (first-true (leb (length (cnf-words (problem version ws))) (length room)) true (all-pass .0))
+
+    words-are : n .words ≡ length (cnf-words (problem version ws))
+    words-are = rw (a .numbered) (sym (word-count-is (problem version ws)))
+
+    pub cnf-held : CnfHeld (problem version ws) n room′
+    cnf-held = record {
+      proper = proper;
+      counted = a .numbered;
+      fits = rw (a .room-after, words-are) (omega (arith, length-append (cnf-words (problem version ws)) (drop (length (cnf-words (problem version ws))) room)));
+      held = rw (a .room-after, words-are) (take-append-seam (cnf-words (problem version ws)) _);
+    }
+
+    pub steps-answered : {r : Refuted} {numbers′ clauses′ : List ℕ} → JudgedFor (problem version ws) refutation numbers clauses r numbers′ clauses′
+        → JudgedAs version ws refutation room numbers clauses r room′ numbers′ clauses′
+    unfolding judge-refutation judge-clauses room-after-judging numbers-after clauses-after
+    steps-answered {r} j =
+        let by-steps : refuted-answer r ≡ steps-answer =
+        j .answered ∙ first-failing-passed words-checks _ (all-pass .1 .0) ∙ first-failing-passed areas-checks _ (all-pass .1 .1 .0) in
+        let is = by-steps ∙ a .answered steps-answer in
+        let yes : judged (refuted-answer r) ≡ true = rw by-steps (steps-judged (cnf (problem version ws)) (steps-of refutation)) in
+        record {
+          answered = is;
+          room-left = a .room-after ∙ rw yes;
+          numbers-left = j .numbers-left;
+          clauses-left = j .clauses-left;
+          excludes = λ r-yes. problem-refuted version ws refutation (length room) (length numbers) (length clauses) (sym is ∙ ap refuted-answer r-yes);
+        }

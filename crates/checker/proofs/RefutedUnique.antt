@@ -61,7 +61,7 @@ module _ {version : ℕ} {ws : List ℕ} {refutation room : List ℤ} {numbers c
   pub refuted-unique : (r ≡ s) × (room₁ ≡ room₂) × (numbers₁ ≡ numbers₂) × (clauses₁ ≡ clauses₂)
   refuted-unique = (
     sym (back-of r) ∙ ap refuted-back same ∙ back-of s,
-    a .room-left ∙ ap (λ (x : Answer). room-after-judging x ws room) same ∙ sym (b .room-left),
-    a .numbers-left ∙ ap (λ (x : Answer). numbers-after x ws numbers) same ∙ sym (b .numbers-left),
-    a .clauses-left ∙ ap (λ (x : Answer). clauses-after x ws refutation clauses) same ∙ sym (b .clauses-left),
+    a .room-left ∙ ap (λ (x : Answer). room-after-judging x version ws room) same ∙ sym (b .room-left),
+    a .numbers-left ∙ ap (λ (x : Answer). numbers-after x version ws numbers) same ∙ sym (b .numbers-left),
+    a .clauses-left ∙ ap (λ (x : Answer). clauses-after x version ws refutation clauses) same ∙ sym (b .clauses-left),
   )

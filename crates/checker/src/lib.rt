@@ -1,9 +1,10 @@
 // Judges a refutation of a problem's CNF. The demands stand as theorems in proofs/Demands.antt.
+pub mod answer;
 pub mod judge;
 
 use problem::Refusal;
 
-// Document 01's answers to a refutation of a problem's CNF; specs/Refutation.antt gives the number of each.
+// Document 01's answers to a refutation of a problem's CNF; `answer` gives the number and the place of each.
 pub enum Refuted {
     Yes,
     Problem(Refusal),

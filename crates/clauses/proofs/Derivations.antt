@@ -13,7 +13,7 @@ use Rattle.clauses.specs.Lists.{all-of}
 use Rattle.clauses.specs.Answers.{Answer, Check, first-failing, granted}
 use Rattle.clauses.specs.Clauses.{Clause, variable-of, literal-within}
 use Rattle.clauses.specs.CnfWords.{ended-by-0}
-use Rattle.clauses.specs.Refutations.{Step, step, words-of-steps, Part, literals, hints, word-checks, refutation-checks, step-accepted, clauses-after, step-checks, last-is-empty, last-is-empty-after, judge-steps}
+use Rattle.clauses.specs.Refutations.{Step, step, words-of-steps, Part, literals, hints, word-checks, refutation-checks, step-accepted, clause-numbered, clauses-after, step-checks, last-is-empty, last-is-empty-after, judge-steps}
 use Rattle.clauses.specs.Refutable.{Refutation}
 use Rattle.clauses.proofs.Satisfaction.{both-true, first-true, second-true, all-of-weaker}
 use Rattle.clauses.proofs.ReadBack.{not-0, StepsNoZeros, step-first, steps-back, steps-whole, within-not-0}
@@ -65,7 +65,7 @@ names-one-of n h = leb 1 h && leb h n
 
 -- Accepted, its literals within the variables, its hints earlier clauses.
 pub record RightStep (variables : ℕ) (cs : List Clause) (s : Step) : Type 0 where
-  pub accepted : step-accepted cs s ≡ true
+  pub accepted : step-accepted (clause-numbered cs) s ≡ true
   pub within : all-of (literal-within variables) (s .clause) ≡ true
   pub earlier : all-of (names-one-of (length cs)) (s .hints) ≡ true
 

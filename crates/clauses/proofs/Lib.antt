@@ -3,6 +3,7 @@ pub mod Satisfaction
 pub mod Signs
 pub mod PutAt
 pub mod Answers
+pub mod Lookups
 pub mod Sound
 pub mod ReadBack
 pub mod Derivations

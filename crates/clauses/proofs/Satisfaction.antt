@@ -193,11 +193,6 @@ member-if-among w ws e = let v = some-of-witness (same w) ws e in Memᴰ·cast (
 pub negated-negated : (w : ℤ) → negated (negated w) ≡ w
 negated-negated = negℤ-negℤ
 
-pub negated-0 : (w : ℤ) → is-0 w ≡ true → negated w ≡ w
-negated-0 (pos zero) e = refl
-negated-0 (pos (suc n)) e = absurd (false≢true e)
-negated-0 (negsuc n) e = absurd (false≢true e)
-
 pub variable-of-negated : (w : ℤ) → variable-of (negated w) ≡ variable-of w
 variable-of-negated (pos zero) = refl
 variable-of-negated (pos (suc n)) = refl
@@ -226,9 +221,6 @@ module _ (a : Assignment) where
 
   pub satisfies-second : (cs ds : List Clause) → Satisfies a (cs ++ ds) → Satisfies a ds
   satisfies-second = all-of-second (clause-true a)
-
-  pub clause-at-true : (cs : List Clause) (i : ℕ) → Satisfies a cs → i < length cs → clause-true a (getD cs i []) ≡ true
-  clause-at-true cs i = all-of-at (clause-true a) cs i []
 
   -- Of a true clause some literal is true.
   pub true-literal : (c : Clause) → clause-true a c ≡ true → (w : ℤ) × List·Memᴰ w c × (literal-true a w ≡ true)

@@ -1,19 +1,19 @@
 -- An accepted step's clause follows from the clauses before it, and an accepted refutation's clauses have no assignment. Assumes nothing.
-use mathlib.Core.Path.{_≡_, refl}
+use mathlib.Core.Path.{_≡_, refl, sym, _∙_}
 use mathlib.Core.Logic.{_⊎_, inl, inr}
-use mathlib.Core.Bool.{Bool, true, false, not, cond, _&&_, false≢true}
+use mathlib.Core.Bool.{Bool, true, false, not, cond, _&&_, _||_, false≢true, Bool·not-not}
 use mathlib.Core.List.{List, [], _∷_, map, List·Memᴰ, List·Memᴰ·not-nil, List·Memᴰ·cases-cons}
+use mathlib.Core.Option.{Option, none, some}
 use Prim.Native.Nat.{ℕ, zero, suc}
-use borrow.Author.Tests.{leb-true, not-true}
-use lib.IntN.{ℤ}
-use lib.Dec.{leb}
-use lib.ListN.{length}
+use lib.IntN.{ℤ, pos, negsuc}
+use lib.ListN.{getD}
 use Rattle.clauses.specs.Lists.{all-of, empty}
 use Rattle.clauses.specs.Answers.{granted}
 use Rattle.clauses.specs.Clauses.{Clause, Assignment, Satisfies, literal-true, clause-true, negated, same, among}
 use Rattle.clauses.specs.CnfWords.{clauses-of, is-0}
-use Rattle.clauses.specs.Refutations.{Step, Outcome, conflict, unit, neither, both-signs, not-false, outcome-of, outcome, clause-numbered, hint-outcome, hints-conflict, step-accepted, clauses-after, step-checks, last-is-empty, judge-steps, judge-clauses, judge-cnf, steps-of}
-use Rattle.clauses.proofs.Satisfaction.{both-true, first-true, second-true, not-both, false-if-not-true, all-of-member, all-of-if-member, all-of-map, none-of-member, those-member, eq-if-same, among-if-member, member-if-among, negated-0, literal-true-negated, not-true-both-ways, satisfies-append, clause-at-true, true-literal, false-literal}
+use Rattle.clauses.specs.Refutations.{Step, Lookup, SatisfiesNamed, Outcome, conflict, unit, neither, both-signs, not-false, outcome-of, outcome, outcome-if-any, clause-numbered, hint-outcome, hints-conflict, step-accepted, clauses-after, step-checks, last-is-empty, judge-steps, judge-clauses, judge-cnf, steps-of}
+use Rattle.clauses.proofs.Satisfaction.{both-true, first-true, second-true, or-second, not-both, false-if-not-true, all-of-member, all-of-if-member, all-of-map, those-member, eq-if-same, member-if-among, not-true-both-ways, satisfies-append, true-literal, false-literal}
+use Rattle.clauses.proofs.Lookups.{numbered-satisfied}
 use Rattle.clauses.proofs.Answers.{passing, steps-granted, clauses-granted, cnf-granted}
 
 -- ════════ What a hint gives is true ════════
@@ -24,18 +24,21 @@ Holds a conflict = ⊥
 Holds a (unit u) = literal-true a u ≡ true
 Holds a neither = Unit
 
--- Of satisfied clauses, the one that a hint names is true.
-numbered-true : (a : Assignment) (cs : List Clause) (h : ℕ) → Satisfies a cs → leb 1 h && leb h (length cs) ≡ true
-    → clause-true a (clause-numbered cs h) ≡ true
-numbered-true a cs zero s e = absurd (false≢true e)
-numbered-true a cs (suc n) s e = clause-at-true a cs n s (leb-true (suc n) (length cs) (second-true (leb 1 (suc n)) _ e))
+-- What is set true is true; the word 0, which is no literal, may stand among it.
+abbrev true-if-literal : Assignment → ℤ → Bool
+true-if-literal a w = is-0 w || literal-true a w
 
-module _ (a : Assignment) (trues : List ℤ) (are-true : all-of (literal-true a) trues ≡ true) where
+not-both-set : (a : Assignment) (w : ℤ) → literal-true a w ≡ true → true-if-literal a (negated w) ≡ true → ⊥
+not-both-set a (pos zero) t n = false≢true t
+not-both-set a (pos (suc v)) t n = not-true-both-ways a (pos (suc v)) t n
+not-both-set a (negsuc v) t n = not-true-both-ways a (negsuc v) t n
+
+module _ (a : Assignment) (trues : List ℤ) (are-true : all-of (true-if-literal a) trues ≡ true) where
   -- A true literal is not false by what is set.
   not-false-if-true : (w : ℤ) → literal-true a w ≡ true → not (among (negated w) trues) ≡ true
   not-false-if-true w t =
       rw (false-if-not-true (among (negated w) trues) (λ m.
-      not-true-both-ways a w t (all-of-member (literal-true a) (member-if-among (negated w) trues m) are-true)))
+      not-both-set a w t (all-of-member (true-if-literal a) (member-if-among (negated w) trues m) are-true)))
 
   outcome-of-holds : (us : List ℤ) {w : ℤ} → List·Memᴰ w us → literal-true a w ≡ true → Holds a (outcome-of trues us)
   outcome-of-holds [] m t = List·Memᴰ·not-nil m
@@ -52,53 +55,58 @@ module _ (a : Assignment) (trues : List ℤ) (are-true : all-of (literal-true a)
       let w = true-literal a c e in
       outcome-of-holds (not-false trues c) (those-member _ (w .1) (not-false-if-true (w .0) (w .2))) (w .2)
 
-  hint-outcome-holds : (cs : List Clause) (h : ℕ) → Satisfies a cs → Holds a (hint-outcome cs trues h)
-  hint-outcome-holds cs h s = go (leb 1 h && leb h (length cs)) (λ e. outcome-holds (clause-numbered cs h) (numbered-true a cs h s e))
+  hint-outcome-holds : (named : Lookup) (h : ℕ) → SatisfiesNamed a named → Holds a (hint-outcome named trues h)
+  hint-outcome-holds named h s = go (named h) (s h)
     where
-      go : (b : Bool) → (b ≡ true → Holds a (outcome trues (clause-numbered cs h)))
-          → Holds a (cond b (outcome trues (clause-numbered cs h)) neither)
-      go true o = o refl
-      go false o = tt
+      go : (o : Option Clause) → ((c : Clause) → o ≡ some c → clause-true a c ≡ true) → Holds a (outcome-if-any trues o)
+      go none t = tt
+      go (some c) t = outcome-holds c (t c refl)
 
 -- Where what is set is true, the hints reach no conflict.
-no-conflict : (a : Assignment) (cs : List Clause) → Satisfies a cs → (hs : List ℕ) (trues : List ℤ)
-    → all-of (literal-true a) trues ≡ true → hints-conflict cs trues hs ≡ false
-no-conflict a cs s [] trues t = refl
-no-conflict a cs s (h ∷ hs) trues t =
-    go (hint-outcome cs trues h) (hint-outcome-holds a trues t cs h s) (λ u p. no-conflict a cs s hs (u ∷ trues) (both-true p t))
+no-conflict : (a : Assignment) (named : Lookup) → SatisfiesNamed a named → (hs : List ℕ) (trues : List ℤ)
+    → all-of (true-if-literal a) trues ≡ true → hints-conflict named trues hs ≡ false
+no-conflict a named s [] trues t = refl
+no-conflict a named s (h ∷ hs) trues t =
+    go (hint-outcome named trues h) (hint-outcome-holds a trues t named h s)
+    (λ u p. no-conflict a named s hs (u ∷ trues) (both-true (or-second (is-0 u) p) t))
   where
-    go : (o : Outcome) → Holds a o → ((u : ℤ) → literal-true a u ≡ true → hints-conflict cs (u ∷ trues) hs ≡ false)
-        → elim o as (λ x. Bool) [ conflict ↦ empty hs | unit u ↦ hints-conflict cs (u ∷ trues) hs | neither ↦ false ] ≡ false
+    go : (o : Outcome) → Holds a o → ((u : ℤ) → literal-true a u ≡ true → hints-conflict named (u ∷ trues) hs ≡ false)
+        → elim o as (λ x. Bool) [ conflict ↦ empty hs | unit u ↦ hints-conflict named (u ∷ trues) hs | neither ↦ false ] ≡ false
     go conflict p later = absurd p
     go (unit u) p later = later u p
     go neither p later = refl
 
 -- ════════ Steps ════════
 
--- The word 0 is its own negation, so a clause without both signs has none.
-no-0 : (c : Clause) → both-signs c ≡ false → {w : ℤ} → List·Memᴰ w c → is-0 w ≡ false
-no-0 c e {w} m = false-if-not-true (is-0 w) (λ z.
-    not-both (rw negated-0 (among-if-member m)) (none-of-member (λ v. among (negated v) c) m e))
+-- Where a clause is false, its literals' negations are true.
+negation-true : (a : Assignment) (w : ℤ) → literal-true a w ≡ false → true-if-literal a (negated w) ≡ true
+negation-true a (pos zero) f = refl
+negation-true a (pos (suc v)) f = rw f
+negation-true a (negsuc v) f = sym (Bool·not-not (getD a v false)) ∙ rw f
 
--- Where a clause without both signs is false, its literals' negations are true.
-negations-true : (a : Assignment) (c : Clause) → both-signs c ≡ false → clause-true a c ≡ false → all-of (literal-true a) (map negated c) ≡ true
-negations-true a c e f = rw all-of-map (all-of-if-member _ c (λ w m. rw (literal-true-negated a w (no-0 c e m), false-literal a m f)))
+negations-true : (a : Assignment) (c : Clause) → clause-true a c ≡ false → all-of (true-if-literal a) (map negated c) ≡ true
+negations-true a c f = rw all-of-map (all-of-if-member _ c (λ w m. negation-true a w (false-literal a m f)))
 
--- An assignment that satisfies the clauses so far satisfies an accepted step's clause.
-pub step-sound : (cs : List Clause) (s : Step) → step-accepted cs s ≡ true → (a : Assignment) → Satisfies a cs → clause-true a (s .clause) ≡ true
+-- An assignment that satisfies the clauses that hints can name satisfies an accepted step's clause.
+pub step-sound : (named : Lookup) (s : Step) → step-accepted named s ≡ true → (a : Assignment) → SatisfiesNamed a named → clause-true a (s .clause) ≡ true
 unfolding step-accepted
-step-sound cs s e a sat = go (clause-true a (s .clause)) refl
+step-sound named s e a sat = go (clause-true a (s .clause)) refl
   where
     go : (b : Bool) → clause-true a (s .clause) ≡ b → b ≡ true
     go true p = refl
     go false p =
-        let one-sign : both-signs (s .clause) ≡ false = not-true _ (first-true (not (both-signs (s .clause))) _ e) in
         absurd (not-both (second-true (not (both-signs (s .clause))) _ e)
-        (no-conflict a cs sat (s .hints) (map negated (s .clause)) (negations-true a (s .clause) one-sign p)))
+        (no-conflict a named sat (s .hints) (map negated (s .clause)) (negations-true a (s .clause) p)))
+
+-- The same over the clauses so far.
+pub next-sound : (cs : List Clause) (s : Step) → step-accepted (clause-numbered cs) s ≡ true → (a : Assignment) → Satisfies a cs
+    → clause-true a (s .clause) ≡ true
+next-sound cs s e a sat = step-sound (clause-numbered cs) s e a (numbered-satisfied a cs sat)
 
 -- The clauses after an accepted step are satisfied too.
-pub step-keeps : (cs : List Clause) (s : Step) → step-accepted cs s ≡ true → (a : Assignment) → Satisfies a cs → Satisfies a (clauses-after cs s)
-step-keeps cs s e a sat = satisfies-append a cs (s .clause ∷ []) sat (both-true (step-sound cs s e a sat) refl)
+pub step-keeps : (cs : List Clause) (s : Step) → step-accepted (clause-numbered cs) s ≡ true → (a : Assignment) → Satisfies a cs
+    → Satisfies a (clauses-after cs s)
+step-keeps cs s e a sat = satisfies-append a cs (s .clause ∷ []) sat (both-true (next-sound cs s e a sat) refl)
 
 -- ════════ Refutations ════════
 
@@ -110,10 +118,10 @@ empty-false a (w ∷ c) e t = false≢true e
 pub accepted-refute : (cs : List Clause) (i : ℕ) (ss : List Step) → all-of passing (step-checks cs i ss) ≡ true → last-is-empty ss ≡ true
     → (a : Assignment) → Satisfies a cs → ⊥
 accepted-refute cs i [] e l a sat = false≢true l
-accepted-refute cs i (s ∷ []) e l a sat = empty-false a (s .clause) l (step-sound cs s (first-true (step-accepted cs s) true e) a sat)
+accepted-refute cs i (s ∷ []) e l a sat = empty-false a (s .clause) l (next-sound cs s (first-true (step-accepted (clause-numbered cs) s) true e) a sat)
 accepted-refute cs i (s ∷ t ∷ ss) e l a sat =
-    accepted-refute (clauses-after cs s) (suc i) (t ∷ ss) (second-true (step-accepted cs s) _ e) l a
-    (step-keeps cs s (first-true (step-accepted cs s) _ e) a sat)
+    accepted-refute (clauses-after cs s) (suc i) (t ∷ ss) (second-true (step-accepted (clause-numbered cs) s) _ e) l a
+    (step-keeps cs s (first-true (step-accepted (clause-numbered cs) s) _ e) a sat)
 
 -- Clauses whose refutation is accepted have no assignment that satisfies them.
 pub refuted : (cs : List Clause) (ss : List Step) → judge-steps cs ss ≡ granted 0 → (a : Assignment) → Satisfies a cs → ⊥

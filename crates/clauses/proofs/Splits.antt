@@ -1,7 +1,7 @@
 -- The clause that denies values of variables, and when the rule accepts it. Assumes nothing.
 use mathlib.Core.Path.{_≡_, refl, sym, _∙_, ap}
 use mathlib.Core.Logic.{_⊎_, inl, inr}
-use mathlib.Core.Bool.{Bool, true, false, not, false≢true, Bool·not-not}
+use mathlib.Core.Bool.{Bool, true, false, not, _&&_, false≢true, Bool·not-not}
 use mathlib.Core.List.{List, [], _∷_, map, List·Memᴰ, List·Memᴰ·head, List·Memᴰ·tail, List·Memᴰ·not-nil, List·Memᴰ·cases-cons, Memᴰ·cast, Memᴰ·map}
 use Prim.Native.Nat.{ℕ, zero, suc, _+_, _≤_, _<_}
 use native.Mathlib.Nat.{le-refl, not-suc-le-zero, le-of-suc-le-suc, add-zero, zero-add}
@@ -12,8 +12,10 @@ use lib.Dec.{leb}
 use lib.ListN.{length, getD}
 use Rattle.clauses.specs.Lists.{all-of}
 use Rattle.clauses.specs.Clauses.{Clause, Assignment, negated, variable-of, literal-true, clause-true, literal-within, among}
-use Rattle.clauses.specs.Refutations.{step, both-signs, not-false, unit, outcome-of, outcome, hint-outcome, hints-conflict, step-accepted}
+use Rattle.clauses.specs.CnfWords.{is-0}
+use Rattle.clauses.specs.Refutations.{step, both-signs, not-false, unit, outcome-of, outcome, hint-outcome, hints-conflict, step-accepted, clause-numbered}
 use Rattle.clauses.proofs.Satisfaction.{both-true, second-true, false-if-not-true, some-of-witness, all-of-member, negated-negated, among-if-member, member-if-among, false-literal, variable-of-negated}
+use Rattle.clauses.proofs.Lookups.{numbered-some}
 use Rattle.clauses.proofs.Derivations.{names-one-of, RightStep}
 
 -- ════════ The clause that denies values ════════
@@ -76,8 +78,9 @@ denials-one-sign i bs = ap not (false-if-not-true (both-signs (denials i bs)) bo
   where
     both : both-signs (denials i bs) ≡ true → ⊥
     both e =
-        let v = some-of-witness (λ w. among (negated w) (denials i bs)) (denials i bs) e in
-        not-both-ways i bs (v .0) (v .1) (member-if-among (negated (v .0)) (denials i bs) (v .2))
+        let v = some-of-witness (λ w. not (is-0 w) && among (negated w) (denials i bs)) (denials i bs) e in
+        let denied = second-true (not (is-0 (v .0))) (among (negated (v .0)) (denials i bs)) (v .2) in
+        not-both-ways i bs (v .0) (v .1) (member-if-among (negated (v .0)) (denials i bs) denied)
 
 -- ════════ Literals that are not false ════════
 
@@ -113,16 +116,16 @@ module _ (cs : List Clause) (trues : List ℤ) (n : ℕ) (l : n < length cs) whe
   names-clause : names-one-of (length cs) (suc n) ≡ true
   names-clause = both-true (le-leb 1 (suc n) (omega arith)) (le-leb (suc n) (length cs) l)
 
-  hint-taken : hint-outcome cs trues (suc n) ≡ outcome trues (getD cs n [])
-  hint-taken = rw names-clause
+  hint-taken : hint-outcome (clause-numbered cs) trues (suc n) ≡ outcome trues (getD cs n [])
+  hint-taken = rw (numbered-some cs n l)
 
-  conflict-at : not-false trues (getD cs n []) ≡ [] → hints-conflict cs trues (suc n ∷ []) ≡ true
+  conflict-at : not-false trues (getD cs n []) ≡ [] → hints-conflict (clause-numbered cs) trues (suc n ∷ []) ≡ true
   conflict-at e = rw (hint-taken ∙ ap (outcome-of trues) e, hints-conflict)
 
   unit-at : (u : ℤ) (hs : List ℕ) → not-false trues (getD cs n []) ≡ u ∷ [] → among u trues ≡ false
-      → hints-conflict cs trues (suc n ∷ hs) ≡ hints-conflict cs (u ∷ trues) hs
+      → hints-conflict (clause-numbered cs) trues (suc n ∷ hs) ≡ hints-conflict (clause-numbered cs) (u ∷ trues) hs
   unit-at u hs e f =
-      let g : hint-outcome cs trues (suc n) ≡ unit u = hint-taken ∙ ap (outcome-of trues) e ∙ rw f in
+      let g : hint-outcome (clause-numbered cs) trues (suc n) ≡ unit u = hint-taken ∙ ap (outcome-of trues) e ∙ rw f in
       rw (g, hints-conflict)
 
 -- ════════ The rule accepts denials ════════
@@ -177,9 +180,9 @@ module _ (variables : ℕ) (cs : List Clause) where
       one-left : not-false trues (getD cs m []) ≡ pos (suc i) ∷ []
       one-left = rw (p, no-value-yet (suc i) bs (negsuc i) (le-refl (suc i)), self-denied (denials (suc i) bs))
 
-      first-hint : hints-conflict cs trues (suc m ∷ suc n ∷ []) ≡ hints-conflict cs (pos (suc i) ∷ trues) (suc n ∷ [])
+      first-hint : hints-conflict (clause-numbered cs) trues (suc m ∷ suc n ∷ []) ≡ hints-conflict (clause-numbered cs) (pos (suc i) ∷ trues) (suc n ∷ [])
       first-hint =
           unit-at cs trues m lm (pos (suc i)) (suc n ∷ []) one-left (no-value-yet (suc i) bs (pos (suc i)) (le-refl (suc i)))
 
-      second-hint : hints-conflict cs (pos (suc i) ∷ trues) (suc n ∷ []) ≡ true
+      second-hint : hints-conflict (clause-numbered cs) (pos (suc i) ∷ trues) (suc n ∷ []) ≡ true
       second-hint = conflict-at cs (pos (suc i) ∷ trues) n ln (rw q (self-denied (denials i (true ∷ bs))))

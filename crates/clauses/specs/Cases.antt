@@ -1,11 +1,12 @@
--- Case T's CNF as bare words, and its two refutations, by computing. Assumes nothing.
+-- Case T's CNF as bare words and its two refutations, and the signs of the word 0, by computing. Assumes nothing.
 use mathlib.Core.Path.{_≡_, refl}
+use mathlib.Core.Bool.{true, false}
 use mathlib.Core.List.{List, [], _∷_}
 use lib.IntN.{ℤ, pos, negsuc}
 use Rattle.clauses.specs.Limits.{variables-limit}
 use Rattle.clauses.specs.Answers.{answer}
 use Rattle.clauses.specs.CnfWords.{cnf-checks}
-use Rattle.clauses.specs.Refutations.{judge-cnf, judge-clauses, judge-steps, refutation-checks, area-checks, step-accepted}
+use Rattle.clauses.specs.Refutations.{judge-cnf, judge-clauses, judge-steps, refutation-checks, area-checks, step-accepted, both-signs}
 
 -- The words of case T: `1 0`, `-2 0`, `-3 -2 -2 0`, `-3 2 2 0`, `-4 2 0`, `4 -2 0`, `-5 4 0`, `5 -4 0`, `-3 -6 5 0`, `-3 6 -5 0`,
 -- `-6 3 0`, `4 0`. A negative number -n is `negsuc (n - 1)`.
@@ -40,3 +41,10 @@ T-other-steps = pos 0 ∷ pos 12 ∷ pos 5 ∷ pos 0 ∷ []
 T-refused : judge-cnf 6 T-cnf T-other-steps 7 13 ≡ answer 13 0
 unfolding judge-cnf judge-clauses judge-steps refutation-checks area-checks step-accepted cnf-checks variables-limit
 T-refused = refl
+
+-- The word 0 is no literal, so it has no sign, though it is its own negation; a variable has.
+zero-has-no-sign : both-signs (pos 0 ∷ []) ≡ false
+zero-has-no-sign = refl
+
+one-has-both-signs : both-signs (pos 1 ∷ negsuc 0 ∷ []) ≡ true
+one-has-both-signs = refl

@@ -1,7 +1,7 @@
 -- Lists that the other definitions are written with. Assumes nothing.
 use mathlib.Core.Bool.{Bool, true, false, _&&_, _||_, cond}
 use mathlib.Core.List.{List, [], _∷_, _++_}
-use Prim.Native.Nat.{ℕ, zero, suc}
+use Prim.Native.Nat.{ℕ, zero, suc, _+_}
 use lib.ListN.{drop, length}
 
 -- The n numbers from i on: i, i + 1, ..
@@ -9,11 +9,20 @@ abbrev pub numbers : ℕ → ℕ → List ℕ
 numbers i zero = []
 numbers i (suc n) = i ∷ numbers (suc i) n
 
+abbrev pub sum : List ℕ → ℕ
+sum [] = 0
+sum (n ∷ ns) = n + sum ns
+
 module _ {A : Type 0} where
   -- For each element, in order, its list.
   abbrev pub each : {B : Type 0} → List A → (A → List B) → List B
   each [] f = []
   each (x ∷ xs) f = f x ++ each xs f
+
+  -- Lists one after the other.
+  abbrev pub joined : List (List A) → List A
+  joined [] = []
+  joined (xs ∷ xss) = xs ++ joined xss
 
   -- Each element with its number, counted from i.
   abbrev pub numbered : {B : Type 0} → ℕ → List A → (ℕ → A → B) → List B

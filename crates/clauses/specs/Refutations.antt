@@ -1,13 +1,15 @@
 -- Document 01, "Refutations": words read as steps, the rule for one step, and the judge for any CNF. Assumes nothing.
 use mathlib.Core.Bool.{Bool, true, false, not, cond, _&&_, _||_}
 use mathlib.Core.List.{List, [], _∷_, _++_, map}
+use mathlib.Core.Option.{Option, none, some}
+use mathlib.Core.Path.{_≡_}
 use Prim.Native.Nat.{ℕ, zero, suc, _+_}
 use lib.IntN.{ℤ, pos, negsuc}
 use lib.Dec.{leb, ltb, eqb}
-use lib.ListN.{length, getD, replicate}
+use lib.ListN.{length, getElem?, replicate}
 use Rattle.clauses.specs.Lists.{each, some-of, all-of, those, empty, written}
 use Rattle.clauses.specs.Answers.{Answer, Check, check, first-failing, granted, bad-refutation, area-too-small, step-refused, not-closed}
-use Rattle.clauses.specs.Clauses.{Clause, negated, variable-of, same, among}
+use Rattle.clauses.specs.Clauses.{Clause, Assignment, clause-true, negated, variable-of, same, among}
 use Rattle.clauses.specs.CnfWords.{ended-by-0, clauses-of, ended, is-0, cnf-checks}
 
 -- ════════ Steps ════════
@@ -91,14 +93,17 @@ refutation-checks variables C ws = word-checks variables literals (suc C) 0 ws +
 
 -- ════════ The rule for one step ════════
 
--- The clause of a number; numbers begin at 1.
-abbrev pub clause-numbered : List Clause → ℕ → Clause
-clause-numbered cs zero = []
-clause-numbered cs (suc n) = getD cs n []
+-- What the hints can name: of a number its clause, or none.
+abbrev pub Lookup : Type 0
+Lookup = ℕ → Option Clause
 
--- "a variable with both signs"
+-- The assignment makes each clause true that has a number.
+abbrev pub SatisfiesNamed : Assignment → Lookup → Type 0
+SatisfiesNamed a named = (h : ℕ) (c : Clause) → named h ≡ some c → clause-true a c ≡ true
+
+-- "a variable with both signs"; the word 0, its own negation, is no literal and has no sign
 abbrev pub both-signs : Clause → Bool
-both-signs c = some-of (λ w. among (negated w) c) c
+both-signs c = some-of (λ w. not (is-0 w) && among (negated w) c) c
 
 -- What is set so far: the literals that are true. A literal is false where its negation is true.
 abbrev pub not-false : List ℤ → Clause → List ℤ
@@ -117,26 +122,34 @@ outcome-of trues (u ∷ us) = cond (all-of (same u) us && not (among u trues)) (
 abbrev pub outcome : List ℤ → Clause → Outcome
 outcome trues c = outcome-of trues (not-false trues c)
 
--- What a hint gives: one that names no clause so far gives nothing.
-abbrev pub hint-outcome : List Clause → List ℤ → ℕ → Outcome
-hint-outcome cs trues h =
-    cond (leb 1 h && leb h (length cs)) (outcome trues (clause-numbered cs h)) neither
+-- What a hint gives: one that names no clause gives nothing.
+abbrev pub outcome-if-any : List ℤ → Option Clause → Outcome
+outcome-if-any trues none = neither
+outcome-if-any trues (some c) = outcome trues c
+
+abbrev pub hint-outcome : Lookup → List ℤ → ℕ → Outcome
+hint-outcome named trues h = outcome-if-any trues (named h)
 
 -- Taking the hints in order: the conflict "must be the last hint"; a unit is set true; "anything else, or no conflict, refuses the step".
-abbrev pub hints-conflict : List Clause → List ℤ → List ℕ → Bool
-hints-conflict cs trues [] = false
-hints-conflict cs trues (h ∷ hs) =
-    elim (hint-outcome cs trues h) [
+abbrev pub hints-conflict : Lookup → List ℤ → List ℕ → Bool
+hints-conflict named trues [] = false
+hints-conflict named trues (h ∷ hs) =
+    elim (hint-outcome named trues h) [
       | conflict ↦ empty hs
-      | unit u ↦ hints-conflict cs (u ∷ trues) hs
+      | unit u ↦ hints-conflict named (u ∷ trues) hs
       | neither ↦ false
     ]
 
 -- "A step whose clause has a variable with both signs is refused. Otherwise set its literals false and take the hints in order."
-unfoldable pub step-accepted : List Clause → Step → Bool
-step-accepted cs s = not (both-signs (s .clause)) && hints-conflict cs (map negated (s .clause)) (s .hints)
+unfoldable pub step-accepted : Lookup → Step → Bool
+step-accepted named s = not (both-signs (s .clause)) && hints-conflict named (map negated (s .clause)) (s .hints)
 
 -- ════════ The judge ════════
+
+-- "CNF clauses are numbered from 1, steps follow on": of the clauses so far the one of a number; none has 0 or a number past the last.
+abbrev pub clause-numbered : List Clause → Lookup
+clause-numbered cs zero = none
+clause-numbered cs (suc n) = getElem? cs n
 
 -- An accepted step's clause follows the clauses so far.
 abbrev pub clauses-after : List Clause → Step → List Clause
@@ -145,7 +158,7 @@ clauses-after cs s = cs ++ (s .clause ∷ [])
 -- 13: the first step that is refused.
 abbrev pub step-checks : List Clause → ℕ → List Step → List Check
 step-checks cs i [] = []
-step-checks cs i (s ∷ ss) = check (step-accepted cs s) (step-refused i) ∷ step-checks (clauses-after cs s) (suc i) ss
+step-checks cs i (s ∷ ss) = check (step-accepted (clause-numbered cs) s) (step-refused i) ∷ step-checks (clauses-after cs s) (suc i) ss
 
 abbrev pub last-is-empty-after : Step → List Step → Bool
 last-is-empty-after s [] = empty (s .clause)

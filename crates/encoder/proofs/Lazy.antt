@@ -12,8 +12,8 @@ use Rattle.clauses.specs.Cases.{T-cnf}
 use Rattle.clauses.specs.Clauses.{negated}
 use Rattle.clauses.specs.Answers.{Answer}
 use Rattle.meaning.specs.Limits.{inputs-limit, latches-limit, gates-limit, nodes-limit, bound-limit}
-use Rattle.meaning.specs.Problem.{problem}
-use Rattle.meaning.specs.Check.{known-version, part-checks, parts-checked, problem-checked}
+use Rattle.meaning.specs.Problem.{header-words, problem-by, problem}
+use Rattle.meaning.specs.Check.{problem-checked}
 use Rattle.meaning.specs.Cnf.{true-literal, false-literal, cnf, cnf-words}
 use Rattle.meaning.specs.Calls.{room-checked, write-cnf, room-after-writing}
 use Rattle.meaning.specs.Cases.{T-words}
@@ -75,7 +75,7 @@ T-bad = over T-bad-words
 
 -- Another version.
 abbrev pub T-unknown : Input
-T-unknown = record { version = 2; words = T-words; room = replicate 37 (pos 9) }
+T-unknown = record { version = 9; words = T-words; room = replicate 37 (pos 9) }
 
 -- G 2 with one input, k = 0: 1 0 0 2 0, 0 2 0, 5 0 0
 abbrev pub G : Input
@@ -113,16 +113,16 @@ G-ended-with y =
 
 -- The answer that document 01 lays down.
 unfoldable laid-down : Input → Answer
-unfolding problem cnf cnf-words known-version inputs-limit latches-limit gates-limit nodes-limit bound-limit part-checks parts-checked problem-checked room-checked write-cnf
+unfolding header-words problem-by problem cnf cnf-words inputs-limit latches-limit gates-limit nodes-limit bound-limit problem-checked room-checked write-cnf
 laid-down x = write-cnf (x .version) (x .words) (length (x .room))
 
-meets : (x : Input) (r : Encoded) → answer-of r ≡ laid-down x → Meets x r (room-after-writing (answer-of r) (x .words) (x .room))
+meets : (x : Input) (r : Encoded) → answer-of r ≡ laid-down x → Meets x r (room-after-writing (answer-of r) (x .version) (x .words) (x .room))
 unfolding laid-down
 meets x r e = record { answered = e; room-after = refl }
 
 -- T's CNF has 37 words: a room of 37 words or more, and one of fewer.
 pub written-meets : (n : ℕ) → 37 ≤ n → Meets (over T-words n) (Written 37) (written T-cnf (replicate n (pos 9)))
-unfolding laid-down problem cnf cnf-words room-after-writing
+unfolding laid-down header-words problem-by problem cnf cnf-words room-after-writing
 written-meets n h = meets (over T-words n) (Written 37) (rw (length-replicate n (pos 9), le-leb 37 n h))
 
 pub small-room-meets : (n : ℕ) → n < 37 → Meets (over T-words n) (RoomTooSmall 37) (replicate n (pos 9))
@@ -138,7 +138,7 @@ unfolding laid-down room-after-writing
 other-version-meets = meets T-unknown (Problem BadVersion) refl
 
 pub G-meets : Meets G (Written 68) (G-ended-with true-literal)
-unfolding laid-down problem cnf cnf-words room-after-writing
+unfolding laid-down header-words problem-by problem cnf cnf-words room-after-writing
 G-meets = meets G (Written 68) refl
 
 -- ════════ Answers ════════
@@ -197,13 +197,13 @@ writes-nothing-breaks n h r =
 module _ (r : Encoded) where
   -- Word 13 is the atom's literal, 2 in T and -2 here.
   pub always-writes-T-breaks : Breaks T-negated r T-cnf
-  unfolding laid-down problem cnf cnf-words room-after-writing
+  unfolding laid-down header-words problem-by problem cnf cnf-words room-after-writing
   always-writes-T-breaks =
       other-word-breaks (meets T-negated (Written 37) refl) 13 (λ e. let z : _≡_ {A = ℕ} 0 1 = cc in omega arith)
 
   -- The CNF of bound 0 at bound 1: word 6 is -2 there, and here the 0 of a step's clause.
   pub k-as-positions-breaks : Breaks (T-longer 75) r (written T-cnf (replicate 75 (pos 9)))
-  unfolding laid-down problem cnf cnf-words room-after-writing
+  unfolding laid-down header-words problem-by problem cnf cnf-words room-after-writing
   k-as-positions-breaks =
       other-word-breaks (meets (T-longer 75) (Written 75) refl) 6 (λ e. let z : _≡_ {A = ℕ} 0 1 = cc in omega arith)
 

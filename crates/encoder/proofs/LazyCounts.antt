@@ -3,7 +3,7 @@
 use mathlib.Core.Path.{_≡_, refl, sym, _∙_, ap}
 use mathlib.Core.Bool.{true}
 use mathlib.Core.List.{List, [], _∷_, _++_}
-use Prim.Native.Nat.{ℕ, _+_, _-_, _%_, _^_, _≤_, _<_}
+use Prim.Native.Nat.{ℕ, _+_, _*_, _-_, _/_, _%_, _^_, _≤_, _<_}
 use native.Mathlib.Nat.{add-sub-of-le}
 use native.Mathlib.Omega.{arith}
 use borrow.Author.Tests.{le-leb}
@@ -15,22 +15,23 @@ use Rattle.clauses.specs.Answers.{Answer}
 use Rattle.clauses.proofs.Satisfaction.{both-true}
 use Rattle.clauses.proofs.Answers.{passing}
 use Rattle.meaning.specs.Limits.{inputs-limit, latches-limit, gates-limit, nodes-limit, bound-limit}
-use Rattle.meaning.specs.Problem.{problem, header, word, latch-place, gate-place, node-place}
-use Rattle.meaning.specs.Check.{known-version, largest-literal, gate-limit, largest-reset, latch-checks, gate-checks, node-checks, part-checks, parts-checked, problem-checked, check-problem, WellFormed}
+use Rattle.meaning.specs.Problem.{Outline, header-words, outline, problem-by, problem, word, latch-place, gate-place, node-place}
+use Rattle.meaning.specs.Check.{largest-literal, gate-limit, largest-reset, latch-checks, gate-checks, node-checks, check-parts, problem-checked, check-problem, WellFormed}
 use Rattle.meaning.specs.Cnf.{cnf-words}
 use Rattle.meaning.specs.Counts.{variable-count, clause-count, word-count}
-use Rattle.meaning.specs.Calls.{write-cnf}
+use Rattle.meaning.specs.Calls.{write-cnf, room-after-writing}
 use Rattle.meaning.specs.Cases.{T-words}
-use Rattle.meaning.proofs.Numbers.{all-of-below}
-use Rattle.meaning.proofs.Check.{all-of-parts, well-formed-if-all-pass, check-yes, checked-if-well-formed}
+use Rattle.meaning.proofs.Numbers.{all-of-each-below}
+use Rattle.meaning.proofs.ItemByItem.{_and_, all-of-joined}
+use Rattle.meaning.proofs.Check.{well-formed-if-all-pass, check-yes, checked-if-well-formed}
 use Rattle.meaning.proofs.Counts.{word-count-is}
 use Rattle.problem.specs.declared.Refusal.the-variants.{BadVersion, BadLiteral}
 use Rattle.encoder.specs.declared.Encoded.the-variants.{Written, RoomTooSmall}
 use Rattle.encoder.specs.declared.Counts.{Counts}
-use Rattle.encoder.specs.declared.Counted.{Counted}
-use Rattle.encoder.specs.declared.Counted.the-variants.{Good, Refused}
+use Rattle.encoder.specs.declared.ProblemCounted.{ProblemCounted}
+use Rattle.encoder.specs.declared.ProblemCounted.the-variants.{Good, Refused}
 use Rattle.encoder.specs.Promise.{CountedAs}
-use Rattle.encoder.proofs.Outcomes.{too-small}
+use Rattle.encoder.proofs.RoomAnswers.{too-small}
 use Rattle.encoder.proofs.Unique.{counted-unique}
 use Rattle.encoder.proofs.Lazy as writers
 use Rattle.encoder.proofs.Lazy.{T-longer-words, T-bad-words}
@@ -41,14 +42,14 @@ pub record Input : Type 0 where
   pub version : ℕ
   pub words : List ℕ
 
-abbrev pub Meets : Input → Counted → Type 0
+abbrev pub Meets : Input → ProblemCounted → Type 0
 Meets x = CountedAs (x .version) (x .words)
 
-abbrev pub Breaks : Input → Counted → Type 0
+abbrev pub Breaks : Input → ProblemCounted → Type 0
 Breaks x r = ¬ (Meets x r)
 
 -- The answer that meets the promise is the only one.
-pub other-answer-breaks : {x : Input} {r s : Counted} → Meets x r → ¬ (s ≡ r) → Breaks x s
+pub other-answer-breaks : {x : Input} {r s : ProblemCounted} → Meets x r → ¬ (s ≡ r) → Breaks x s
 other-answer-breaks {x} {r} {s} m h j = h (counted-unique (x .version) (x .words) s r j m)
 
 -- So is each of its numbers.
@@ -83,19 +84,19 @@ T-bad = over T-bad-words
 
 -- Another version.
 abbrev pub T-unknown : Input
-T-unknown = record { version = 2; words = T-words }
+T-unknown = record { version = 9; words = T-words }
 
 -- The answer that document 01 lays down.
 unfoldable laid-down : Input → Answer
-unfolding known-version inputs-limit latches-limit gates-limit nodes-limit bound-limit part-checks parts-checked problem-checked check-problem
+unfolding header-words inputs-limit latches-limit gates-limit nodes-limit bound-limit problem-checked check-problem
 laid-down x = check-problem (x .version) (x .words)
 
 pub T-meets : Meets T (Good (numbers-of 6 12 37))
-unfolding laid-down problem variable-count clause-count word-count
+unfolding laid-down header-words problem-by problem variable-count clause-count word-count
 T-meets = record { answered = refl; numbered = refl }
 
 pub T-longer-meets : Meets T-longer (Good (numbers-of 10 23 75))
-unfolding laid-down problem variable-count clause-count word-count
+unfolding laid-down header-words problem-by problem variable-count clause-count word-count
 T-longer-meets = record { answered = refl; numbered = refl }
 
 pub T-bad-meets : Meets T-bad (Refused (BadLiteral 5))
@@ -109,7 +110,7 @@ T-unknown-meets = record { answered = refl; numbered = tt }
 -- ════════ Wrong counters ════════
 
 -- Any other answer to T.
-pub refuses-all-breaks : (r : Counted) → ¬ (r ≡ Good (numbers-of 6 12 37)) → Breaks T r
+pub refuses-all-breaks : (r : ProblemCounted) → ¬ (r ≡ Good (numbers-of 6 12 37)) → Breaks T r
 refuses-all-breaks r = other-answer-breaks T-meets
 
 -- One of the three numbers is another.
@@ -129,7 +130,7 @@ module _ (c : Counts) where
 pub made-up-place-breaks : (i : ℕ) → ¬ (i ≡ 5) → Breaks T-bad (Refused (BadLiteral i))
 made-up-place-breaks i h = other-answer-breaks T-bad-meets (λ e. h (cc))
 
-pub takes-any-version-breaks : (r : Counted) → ¬ (r ≡ Refused BadVersion) → Breaks T-unknown r
+pub takes-any-version-breaks : (r : ProblemCounted) → ¬ (r ≡ Refused BadVersion) → Breaks T-unknown r
 takes-any-version-breaks r = other-answer-breaks T-unknown-meets
 
 -- The numbers of bound 0 at bound 1, which are those of k positions.
@@ -138,62 +139,80 @@ always-counts-T-breaks = other-words-break T-longer-meets (λ e. omega arith)
 
 -- ════════ At all limits ════════
 
--- 0 0 0, then 32 times 6 0 0 and 31 times 7 0 0: one atom, and 63 U or R nodes over it
+-- 0 0 0, then 6 n n for n = 0..31 and 7 n n for n = 32..62: one atom, and 63 U or R nodes, each over the node before it
 abbrev limit-nodes : List ℕ
-limit-nodes = 0 ∷ 0 ∷ 0 ∷ each (replicate 32 6 ++ replicate 31 7) (λ op. op ∷ 0 ∷ 0 ∷ [])
+limit-nodes =
+    (0 ∷ 0 ∷ 0 ∷ [])
+    ++ each (numbers 0 (nodes-limit / 2)) (λ n. 6 ∷ n ∷ n ∷ [])
+    ++ each (numbers (nodes-limit / 2) (nodes-limit / 2 - 1)) (λ n. 7 ∷ n ∷ n ∷ [])
 
--- 64 64 1024 64 31, and a 0 for each word of a latch or a gate before the nodes: "At all limits", with 437,012 words.
+-- A 0 for each word of a latch or a gate before the nodes.
+abbrev limit-zeros : ℕ
+limit-zeros = 2 * latches-limit + 2 * gates-limit
+
+-- "At all limits", with 437,012 words.
 unfoldable pub limits : List ℕ
-limits = 64 ∷ 64 ∷ 1_024 ∷ 64 ∷ 31 ∷ (replicate 2_176 0 ++ limit-nodes)
+unfolding inputs-limit latches-limit gates-limit nodes-limit bound-limit
+limits = inputs-limit ∷ latches-limit ∷ gates-limit ∷ nodes-limit ∷ bound-limit ∷ (replicate limit-zeros 0 ++ limit-nodes)
 
--- Latches and gates of zeros are in range.
-module _ (ws : List ℕ) (zeros : (i : ℕ) → 5 ≤ i → i < node-place (header ws) 0 → word ws i ≡ 0) where
-  zero-latches-pass : (i : ℕ) → i < header ws .latches → all-of passing (latch-checks (header ws) ws i) ≡ true
-  zero-latches-pass i h =
-      let at = latch-place (header ws) i in
-      let next : word ws at ≤ largest-literal (header ws) = omega (arith, zeros at (omega arith) (omega arith)) in
-      let reset : word ws (at + 1) ≤ largest-reset = omega (arith, zeros (at + 1) (omega arith) (omega arith)) in
-      both-true (le-leb _ _ next) (both-true (le-leb _ _ reset) refl)
+abbrev o : Outline
+o = outline 1 limits
 
-  zero-gates-pass : (j : ℕ) → j < header ws .gates → all-of passing (gate-checks (header ws) ws j) ≡ true
-  zero-gates-pass j h =
-      let at = gate-place (header ws) j in
-      let left : word ws at < gate-limit (header ws) j = omega (arith, zeros at (omega arith) (omega arith)) in
-      let right : word ws (at + 1) < gate-limit (header ws) j = omega (arith, zeros (at + 1) (omega arith) (omega arith)) in
-      both-true (le-leb _ _ left) (both-true (le-leb _ _ right) refl)
-
-limits-zeros : (i : ℕ) → 5 ≤ i → i < 2_181 → word limits i ≡ 0
-unfolding limits
+limits-zeros : (i : ℕ) → 5 ≤ i → i < node-place o 0 → word limits i ≡ 0
+unfolding limits header-words
 limits-zeros i l h =
     ap (word limits) (sym (add-sub-of-le l)) ∙ sym (getD-drop 5 limits (i - 5) 0)
-    ∙ List·getD-append (replicate 2_176 0) limit-nodes 0 (i - 5) (rw length-replicate (omega arith))
-    ∙ getD-replicate 2_176 (i - 5) 0 0 (omega arith)
+    ∙ List·getD-append (replicate limit-zeros 0) limit-nodes 0 (i - 5) (rw length-replicate (omega arith))
+    ∙ getD-replicate limit-zeros (i - 5) 0 0 (omega arith)
 
-limits-nodes : all-of passing (each (numbers 0 64) (node-checks (header limits) limits)) ≡ true
-unfolding limits
+-- Latches and gates of zeros are in range.
+limits-latches : (i : ℕ) → i < o .latches → all-of passing (latch-checks o limits i) ≡ true
+unfolding header-words
+limits-latches i h =
+    let at = latch-place o i in
+    let next : word limits at ≤ largest-literal o = omega (arith, limits-zeros at (omega arith) (omega arith)) in
+    let reset : word limits (at + 1) ≤ largest-reset = omega (arith, limits-zeros (at + 1) (omega arith) (omega arith)) in
+    both-true (le-leb _ _ next) (both-true (le-leb _ _ reset) refl)
+
+limits-gates : (j : ℕ) → j < o .gates → all-of passing (gate-checks o limits j) ≡ true
+unfolding header-words
+limits-gates j h =
+    let at = gate-place o j in
+    let left : word limits at < gate-limit o j = omega (arith, limits-zeros at (omega arith) (omega arith)) in
+    let right : word limits (at + 1) < gate-limit o j = omega (arith, limits-zeros (at + 1) (omega arith) (omega arith)) in
+    both-true (le-leb _ _ left) (both-true (le-leb _ _ right) refl)
+
+limits-nodes : all-of passing (each (numbers 0 (o .nodes)) (node-checks o limits)) ≡ true
+unfolding limits header-words
 limits-nodes = refl
 
 limits-right : WellFormed 1 limits
-unfolding limits known-version inputs-limit latches-limit gates-limit nodes-limit bound-limit
+unfolding limits header-words inputs-limit latches-limit gates-limit nodes-limit bound-limit
 limits-right =
     well-formed-if-all-pass 1 limits
-    (all-of-parts passing limits (zero-latches-pass limits limits-zeros) (zero-gates-pass limits limits-zeros)
-    (all-of-below passing (node-checks (header limits) limits) 64 limits-nodes))
+    (all-of-joined passing (check-parts 1 limits) .1
+    (refl
+    and refl
+    and refl
+    and all-of-each-below passing (latch-checks o limits) (o .latches) limits-latches
+    and all-of-each-below passing (gate-checks o limits) (o .gates) limits-gates
+    and limits-nodes
+    and tt))
 
-limits-words : word-count (problem limits) ≡ 437_012
-unfolding limits problem word-count
+limits-words : word-count (problem 1 limits) ≡ 437_012
+unfolding limits header-words problem-by problem word-count
 limits-words = refl
 
 pub limits-meets : Meets (over limits) (Good (numbers-of 41_057 127_346 437_012))
-unfolding limits problem variable-count clause-count word-count
+unfolding limits header-words problem-by problem variable-count clause-count word-count
 limits-meets = record { answered = sym ((check-yes 1 limits) .1 limits-right); numbered = refl }
 
 -- A room of fewer words.
 pub limits-small-room-meets : (n : ℕ) → n < 437_012 → writers.Meets (writers.over limits n) (RoomTooSmall 437_012) (replicate n (pos 9))
-unfolding write-cnf
+unfolding write-cnf room-after-writing
 limits-small-room-meets n h =
-    let words-are : 437_012 ≡ length (cnf-words (problem limits)) = sym (word-count-is (problem limits) ∙ limits-words) in
-    let small = too-small {before = replicate n (pos 9)} words-are (rw length-replicate h) in
+    let words-are : 437_012 ≡ length (cnf-words (problem 1 limits)) = sym (word-count-is (problem 1 limits) ∙ limits-words) in
+    let small = too-small (problem 1 limits) {before = replicate n (pos 9)} words-are (rw length-replicate h) in
     record { answered = small .answered ∙ sym (checked-if-well-formed 1 limits _ limits-right); room-after = small .room-after }
 
 -- ════════ The number of words in 16 bits ════════

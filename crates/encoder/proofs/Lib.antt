@@ -1,11 +1,18 @@
 -- What follows from the definitions of specs/.
-pub mod Pieces
-pub mod Negation
-pub mod Sizes
-pub mod Parts
-pub mod Loops
-pub mod Tallies
-pub mod Outcomes
+pub mod OneAfterAnother
+pub mod ForEachNumber
+pub mod ItemsWritten
+pub mod MachineLiterals
+pub mod VariableNumbers
+pub mod WithinLimits
+pub mod CircuitLiterals
+pub mod OpForms
+pub mod CountingOneMore
+pub mod CountsFit
+pub mod ClosedForms
+pub mod RoomAnswers
+pub mod Preparing
+pub mod PreparedUnique
 pub mod Unique
 pub mod Lazy
 pub mod LazyCounts

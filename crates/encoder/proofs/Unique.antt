@@ -13,8 +13,8 @@ use Rattle.problem.specs.Promise.{refusal-answer}
 use Rattle.problem.proofs.Unique.{refusal-unique, refusal-not-yes}
 use Rattle.encoder.specs.declared.Encoded.{Encoded}
 use Rattle.encoder.specs.declared.Encoded.the-variants.{Written, Problem, RoomTooSmall}
-use Rattle.encoder.specs.declared.Counted.{Counted}
-use Rattle.encoder.specs.declared.Counted.the-variants.{Good, Refused}
+use Rattle.encoder.specs.declared.ProblemCounted.{ProblemCounted}
+use Rattle.encoder.specs.declared.ProblemCounted.the-variants.{Good, Refused}
 use Rattle.encoder.specs.Promise.{answer-of, EncodedAs, counted-answer, Numbered, CountedAs}
 
 -- ════════ Writing ════════
@@ -43,15 +43,17 @@ pub encoded-unique : (version : ℕ) (ws : List ℕ) (before : List ℤ) (r r′
     → EncodedAs version ws before r after → EncodedAs version ws before r′ after′ → ((r ≡ r′) × (after ≡ after′))
 encoded-unique version ws before r r′ after after′ a a′ =
     let same = a .answered ∙ sym (a′ .answered) in
-    (same-outcome r r′ same, a .room-after ∙ ap (λ (x : Answer). room-after-writing x ws before) same ∙ sym (a′ .room-after))
+    (same-outcome r r′ same, a .room-after ∙ ap (λ (x : Answer). room-after-writing x version ws before) same ∙ sym (a′ .room-after))
 
 -- ════════ Counting ════════
 
-same-count : (ws : List ℕ) (r r′ : Counted) → Numbered ws r → Numbered ws r′ → counted-answer r ≡ counted-answer r′ → r ≡ r′
-same-count ws (Good c) (Good c′) n n′ e = ap Good (n ∙ sym n′)
-same-count ws (Good c) (Refused f) n n′ e = absurd (refusal-not-yes f (number-of (sym e)))
-same-count ws (Refused f) (Good c) n n′ e = absurd (refusal-not-yes f (number-of e))
-same-count ws (Refused f) (Refused f′) n n′ e = ap Refused (refusal-unique f f′ e)
+same-count : (version : ℕ) (ws : List ℕ) (r r′ : ProblemCounted)
+    → Numbered version ws r → Numbered version ws r′ → counted-answer r ≡ counted-answer r′ → r ≡ r′
+same-count version ws (Good c) (Good c′) n n′ e = ap Good (n ∙ sym n′)
+same-count version ws (Good c) (Refused f) n n′ e = absurd (refusal-not-yes f (number-of (sym e)))
+same-count version ws (Refused f) (Good c) n n′ e = absurd (refusal-not-yes f (number-of e))
+same-count version ws (Refused f) (Refused f′) n n′ e = ap Refused (refusal-unique f f′ e)
 
-pub counted-unique : (version : ℕ) (ws : List ℕ) (r r′ : Counted) → CountedAs version ws r → CountedAs version ws r′ → r ≡ r′
-counted-unique version ws r r′ a a′ = same-count ws r r′ (a .numbered) (a′ .numbered) (a .answered ∙ sym (a′ .answered))
+pub counted-unique : (version : ℕ) (ws : List ℕ) (r r′ : ProblemCounted) → CountedAs version ws r → CountedAs version ws r′ → r ≡ r′
+counted-unique version ws r r′ a a′ =
+    same-count version ws r r′ (a .numbered) (a′ .numbered) (a .answered ∙ sym (a′ .answered))

@@ -1,3 +1,7 @@
--- What the writer of the CNF promises, and what each piece of it writes.
+-- What the writer of the CNF promises, and what each of its functions writes, numbers or counts.
 pub mod Promise
-pub mod Work
+pub mod Numbering
+pub mod Writing
+pub mod ItemParts
+pub mod Counting
+pub mod Preparing

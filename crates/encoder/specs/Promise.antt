@@ -14,8 +14,8 @@ use Rattle.problem.specs.Promise.{refusal-answer}
 use Rattle.encoder.specs.declared.Encoded.{Encoded}
 use Rattle.encoder.specs.declared.Encoded.the-variants.{Written, Problem, RoomTooSmall}
 use Rattle.encoder.specs.declared.Counts.{Counts}
-use Rattle.encoder.specs.declared.Counted.{Counted}
-use Rattle.encoder.specs.declared.Counted.the-variants.{Good, Refused}
+use Rattle.encoder.specs.declared.ProblemCounted.{ProblemCounted}
+use Rattle.encoder.specs.declared.ProblemCounted.the-variants.{Good, Refused}
 
 -- Document 01's number and place of each outcome.
 abbrev pub answer-of : Encoded → Answer
@@ -26,20 +26,20 @@ answer-of (RoomTooSmall n) = room-too-small n
 -- Writing: its answer, and the whole room after it.
 pub record EncodedAs (version : ℕ) (ws : List ℕ) (before : List ℤ) (r : Encoded) (after : List ℤ) : Type 0 where
   pub answered : answer-of r ≡ write-cnf version ws (length before)
-  pub room-after : after ≡ room-after-writing (answer-of r) ws before
+  pub room-after : after ≡ room-after-writing (answer-of r) version ws before
 
 -- Counting: the answer to the check, and the numbers of the CNF where it is yes.
-abbrev pub counted-answer : Counted → Answer
+abbrev pub counted-answer : ProblemCounted → Answer
 counted-answer (Good c) = granted 0
 counted-answer (Refused f) = refusal-answer f
 
 abbrev pub counts-of : problems.Problem → Counts
 counts-of p = record { variables = variable-count p; clauses = clause-count p; words = word-count p }
 
-abbrev pub Numbered : List ℕ → Counted → Type 0
-Numbered ws (Good c) = c ≡ counts-of (problems.problem ws)
-Numbered ws (Refused f) = Unit
+abbrev pub Numbered : ℕ → List ℕ → ProblemCounted → Type 0
+Numbered version ws (Good c) = c ≡ counts-of (problems.problem version ws)
+Numbered version ws (Refused f) = Unit
 
-pub record CountedAs (version : ℕ) (ws : List ℕ) (r : Counted) : Type 0 where
+pub record CountedAs (version : ℕ) (ws : List ℕ) (r : ProblemCounted) : Type 0 where
   pub answered : counted-answer r ≡ check-problem version ws
-  pub numbered : Numbered ws r
+  pub numbered : Numbered version ws r

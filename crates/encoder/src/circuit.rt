@@ -1,39 +1,38 @@
 // Items 2 to 5 of the CNF: the gates, the resets, the steps and the closing of the loop.
-// Each writer takes the problem as its words and sizes, the room, and where to write; it answers where the next one writes.
+// Each writer takes the problem as its words and outline, the room, and where to write; it answers where the next one writes.
 use crate::forms::and_form;
 use crate::forms::equal_form;
 use crate::forms::guarded_form;
 use crate::literals::circuit;
 use crate::literals::literal;
 use crate::literals::selector;
-use crate::literals::width;
 use crate::write::clause1;
-use problem::Sizes;
+use problem::Outline;
 use problem::read::gate_left;
 use problem::read::gate_right;
 use problem::read::latch_next;
 use problem::read::latch_reset;
 ghost use Prim.Native.Nat.{_<_, _≤_};
 ghost use Rattle.clauses.specs.CnfWords.{words-of};
-ghost use Rattle.meaning.specs.Problem.{problem};
 ghost use Rattle.meaning.specs.Cnf.{gate-clauses, gates-item, resets-item, steps-item, closing-clauses, closing-item};
-ghost use Rattle.encoder.specs.Work.{Ready, Room, Wrote, gates-at, reset-clauses, step-clauses, steps-at, closings-at};
+ghost use Rattle.problem.specs.Promise.{problem-in, ProperIn};
+ghost use Rattle.encoder.specs.Writing.{Room, Wrote};
+ghost use Rattle.encoder.specs.ItemParts.{gates-at, reset-clauses, step-clauses, steps-at, closings-at};
 
 // One gate at t: x=a and b.
-fn gate(words: &[u32], s: Sizes, room: &mut [i32], at: usize, t: u32, j: u32) -> usize
-    requires { ⌜ Ready (now words) s × (t ≤ s .bound) × (j < s .gates) × Room at (gate-clauses (problem (now words)) t j) (now room) ⌝ }
-    ensures { λ r. ⌜ Wrote at (words-of (gate-clauses (problem (now (words .entry))) t j)) (now (room .entry)) (now (room .exit)) r ⌝ }
+fn gate(words: &[u32], s: Outline, room: &mut [i32], at: usize, t: u32, j: u32) -> usize
+    requires { ⌜ ProperIn s (now words) × (t ≤ s .bound) × (j < s .gates) × Room at (gate-clauses (problem-in s (now words)) t j) (now room) ⌝ }
+    ensures { λ r. ⌜ Wrote at (words-of (gate-clauses (problem-in s (now (words .entry))) t j)) (now (room .entry)) (now (room .exit)) r ⌝ }
 {
-    let w = width(s);
-    let x = circuit(w, t, s.inputs + s.latches + j + 1);
-    let a = literal(w, t, gate_left(words, s, j));
-    let b = literal(w, t, gate_right(words, s, j));
+    let x = circuit(s, t, s.inputs + s.latches + j + 1);
+    let a = literal(s, t, gate_left(words, s, j));
+    let b = literal(s, t, gate_right(words, s, j));
     and_form(room, at, x, a, b)
 }
 
-fn gates_at(words: &[u32], s: Sizes, room: &mut [i32], at: usize, t: u32) -> usize
-    requires { ⌜ Ready (now words) s × (t ≤ s .bound) × Room at (gates-at (problem (now words)) t) (now room) ⌝ }
-    ensures { λ r. ⌜ Wrote at (words-of (gates-at (problem (now (words .entry))) t)) (now (room .entry)) (now (room .exit)) r ⌝ }
+fn gates_at(words: &[u32], s: Outline, room: &mut [i32], at: usize, t: u32) -> usize
+    requires { ⌜ ProperIn s (now words) × (t ≤ s .bound) × Room at (gates-at (problem-in s (now words)) t) (now room) ⌝ }
+    ensures { λ r. ⌜ Wrote at (words-of (gates-at (problem-in s (now (words .entry))) t)) (now (room .entry)) (now (room .exit)) r ⌝ }
 {
     let mut next = at;
     let mut j: u32 = 0;
@@ -45,9 +44,9 @@ fn gates_at(words: &[u32], s: Sizes, room: &mut [i32], at: usize, t: u32) -> usi
 }
 
 // "2. Each t, each gate."
-pub(crate) fn gates(words: &[u32], s: Sizes, room: &mut [i32], at: usize) -> usize
-    requires { ⌜ Ready (now words) s × Room at (gates-item (problem (now words))) (now room) ⌝ }
-    ensures { λ r. ⌜ Wrote at (words-of (gates-item (problem (now (words .entry))))) (now (room .entry)) (now (room .exit)) r ⌝ }
+pub(crate) fn gates(words: &[u32], s: Outline, room: &mut [i32], at: usize) -> usize
+    requires { ⌜ ProperIn s (now words) × Room at (gates-item (problem-in s (now words))) (now room) ⌝ }
+    ensures { λ r. ⌜ Wrote at (words-of (gates-item (problem-in s (now (words .entry))))) (now (room .entry)) (now (room .exit)) r ⌝ }
 {
     let mut next = at;
     let mut t: u32 = 0;
@@ -59,12 +58,12 @@ pub(crate) fn gates(words: &[u32], s: Sizes, room: &mut [i32], at: usize) -> usi
 }
 
 // The unit of a latch whose reset is 0 or 1.
-fn reset(words: &[u32], s: Sizes, room: &mut [i32], at: usize, i: u32) -> usize
-    requires { ⌜ Ready (now words) s × (i < s .latches) × Room at (reset-clauses (problem (now words)) i) (now room) ⌝ }
-    ensures { λ r. ⌜ Wrote at (words-of (reset-clauses (problem (now (words .entry))) i)) (now (room .entry)) (now (room .exit)) r ⌝ }
+fn reset(words: &[u32], s: Outline, room: &mut [i32], at: usize, i: u32) -> usize
+    requires { ⌜ ProperIn s (now words) × (i < s .latches) × Room at (reset-clauses (problem-in s (now words)) i) (now room) ⌝ }
+    ensures { λ r. ⌜ Wrote at (words-of (reset-clauses (problem-in s (now (words .entry))) i)) (now (room .entry)) (now (room .exit)) r ⌝ }
 {
-    let x = circuit(width(s), 0, s.inputs + i + 1);
-    match latch_reset(words, i) {
+    let x = circuit(s, 0, s.inputs + i + 1);
+    match latch_reset(words, s, i) {
         0 => clause1(room, at, -x),
         1 => clause1(room, at, x),
         _ => at,
@@ -72,9 +71,9 @@ fn reset(words: &[u32], s: Sizes, room: &mut [i32], at: usize, i: u32) -> usize
 }
 
 // "3. Unit for each latch with reset 0 or 1."
-pub(crate) fn resets(words: &[u32], s: Sizes, room: &mut [i32], at: usize) -> usize
-    requires { ⌜ Ready (now words) s × Room at (resets-item (problem (now words))) (now room) ⌝ }
-    ensures { λ r. ⌜ Wrote at (words-of (resets-item (problem (now (words .entry))))) (now (room .entry)) (now (room .exit)) r ⌝ }
+pub(crate) fn resets(words: &[u32], s: Outline, room: &mut [i32], at: usize) -> usize
+    requires { ⌜ ProperIn s (now words) × Room at (resets-item (problem-in s (now words))) (now room) ⌝ }
+    ensures { λ r. ⌜ Wrote at (words-of (resets-item (problem-in s (now (words .entry))))) (now (room .entry)) (now (room .exit)) r ⌝ }
 {
     let mut next = at;
     let mut i: u32 = 0;
@@ -86,19 +85,18 @@ pub(crate) fn resets(words: &[u32], s: Sizes, room: &mut [i32], at: usize) -> us
 }
 
 // One latch from t to t+1: x=a.
-fn step(words: &[u32], s: Sizes, room: &mut [i32], at: usize, t: u32, i: u32) -> usize
-    requires { ⌜ Ready (now words) s × (t < s .bound) × (i < s .latches) × Room at (step-clauses (problem (now words)) t i) (now room) ⌝ }
-    ensures { λ r. ⌜ Wrote at (words-of (step-clauses (problem (now (words .entry))) t i)) (now (room .entry)) (now (room .exit)) r ⌝ }
+fn step(words: &[u32], s: Outline, room: &mut [i32], at: usize, t: u32, i: u32) -> usize
+    requires { ⌜ ProperIn s (now words) × (t < s .bound) × (i < s .latches) × Room at (step-clauses (problem-in s (now words)) t i) (now room) ⌝ }
+    ensures { λ r. ⌜ Wrote at (words-of (step-clauses (problem-in s (now (words .entry))) t i)) (now (room .entry)) (now (room .exit)) r ⌝ }
 {
-    let w = width(s);
-    let x = circuit(w, t + 1, s.inputs + i + 1);
-    let a = literal(w, t, latch_next(words, i));
+    let x = circuit(s, t + 1, s.inputs + i + 1);
+    let a = literal(s, t, latch_next(words, s, i));
     equal_form(room, at, x, a)
 }
 
-fn steps_at(words: &[u32], s: Sizes, room: &mut [i32], at: usize, t: u32) -> usize
-    requires { ⌜ Ready (now words) s × (t < s .bound) × Room at (steps-at (problem (now words)) t) (now room) ⌝ }
-    ensures { λ r. ⌜ Wrote at (words-of (steps-at (problem (now (words .entry))) t)) (now (room .entry)) (now (room .exit)) r ⌝ }
+fn steps_at(words: &[u32], s: Outline, room: &mut [i32], at: usize, t: u32) -> usize
+    requires { ⌜ ProperIn s (now words) × (t < s .bound) × Room at (steps-at (problem-in s (now words)) t) (now room) ⌝ }
+    ensures { λ r. ⌜ Wrote at (words-of (steps-at (problem-in s (now (words .entry))) t)) (now (room .entry)) (now (room .exit)) r ⌝ }
 {
     let mut next = at;
     let mut i: u32 = 0;
@@ -110,9 +108,9 @@ fn steps_at(words: &[u32], s: Sizes, room: &mut [i32], at: usize, t: u32) -> usi
 }
 
 // "4. t = 0..k-1, each latch: latch at t+1 = next at t."
-pub(crate) fn steps(words: &[u32], s: Sizes, room: &mut [i32], at: usize) -> usize
-    requires { ⌜ Ready (now words) s × Room at (steps-item (problem (now words))) (now room) ⌝ }
-    ensures { λ r. ⌜ Wrote at (words-of (steps-item (problem (now (words .entry))))) (now (room .entry)) (now (room .exit)) r ⌝ }
+pub(crate) fn steps(words: &[u32], s: Outline, room: &mut [i32], at: usize) -> usize
+    requires { ⌜ ProperIn s (now words) × Room at (steps-item (problem-in s (now words))) (now room) ⌝ }
+    ensures { λ r. ⌜ Wrote at (words-of (steps-item (problem-in s (now (words .entry))))) (now (room .entry)) (now (room .exit)) r ⌝ }
 {
     let mut next = at;
     let mut t: u32 = 0;
@@ -124,20 +122,19 @@ pub(crate) fn steps(words: &[u32], s: Sizes, room: &mut [i32], at: usize) -> usi
 }
 
 // One latch at l, the start of the loop, where s(l) is true: x=a with its next a at k.
-fn closing_latch(words: &[u32], s: Sizes, room: &mut [i32], at: usize, l: u32, i: u32) -> usize
-    requires { ⌜ Ready (now words) s × (l ≤ s .bound) × (i < s .latches) × Room at (closing-clauses (problem (now words)) l i) (now room) ⌝ }
-    ensures { λ r. ⌜ Wrote at (words-of (closing-clauses (problem (now (words .entry))) l i)) (now (room .entry)) (now (room .exit)) r ⌝ }
+fn closing_latch(words: &[u32], s: Outline, room: &mut [i32], at: usize, l: u32, i: u32) -> usize
+    requires { ⌜ ProperIn s (now words) × (l ≤ s .bound) × (i < s .latches) × Room at (closing-clauses (problem-in s (now words)) l i) (now room) ⌝ }
+    ensures { λ r. ⌜ Wrote at (words-of (closing-clauses (problem-in s (now (words .entry))) l i)) (now (room .entry)) (now (room .exit)) r ⌝ }
 {
-    let w = width(s);
-    let on = selector(w, s.bound, l);
-    let x = circuit(w, l, s.inputs + i + 1);
-    let a = literal(w, s.bound, latch_next(words, i));
+    let on = selector(s, l);
+    let x = circuit(s, l, s.inputs + i + 1);
+    let a = literal(s, s.bound, latch_next(words, s, i));
     guarded_form(room, at, on, x, a)
 }
 
-fn closings_at(words: &[u32], s: Sizes, room: &mut [i32], at: usize, l: u32) -> usize
-    requires { ⌜ Ready (now words) s × (l ≤ s .bound) × Room at (closings-at (problem (now words)) l) (now room) ⌝ }
-    ensures { λ r. ⌜ Wrote at (words-of (closings-at (problem (now (words .entry))) l)) (now (room .entry)) (now (room .exit)) r ⌝ }
+fn closings_at(words: &[u32], s: Outline, room: &mut [i32], at: usize, l: u32) -> usize
+    requires { ⌜ ProperIn s (now words) × (l ≤ s .bound) × Room at (closings-at (problem-in s (now words)) l) (now room) ⌝ }
+    ensures { λ r. ⌜ Wrote at (words-of (closings-at (problem-in s (now (words .entry))) l)) (now (room .entry)) (now (room .exit)) r ⌝ }
 {
     let mut next = at;
     let mut i: u32 = 0;
@@ -149,9 +146,9 @@ fn closings_at(words: &[u32], s: Sizes, room: &mut [i32], at: usize, l: u32) -> 
 }
 
 // "5. Each l, each latch x with next a at k: (-s -x a)(-s x -a)."
-pub(crate) fn closing(words: &[u32], s: Sizes, room: &mut [i32], at: usize) -> usize
-    requires { ⌜ Ready (now words) s × Room at (closing-item (problem (now words))) (now room) ⌝ }
-    ensures { λ r. ⌜ Wrote at (words-of (closing-item (problem (now (words .entry))))) (now (room .entry)) (now (room .exit)) r ⌝ }
+pub(crate) fn closing(words: &[u32], s: Outline, room: &mut [i32], at: usize) -> usize
+    requires { ⌜ ProperIn s (now words) × Room at (closing-item (problem-in s (now words))) (now room) ⌝ }
+    ensures { λ r. ⌜ Wrote at (words-of (closing-item (problem-in s (now (words .entry))))) (now (room .entry)) (now (room .exit)) r ⌝ }
 {
     let mut next = at;
     let mut l: u32 = 0;

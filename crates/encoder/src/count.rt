@@ -1,35 +1,42 @@
 // The numbers of variables, clauses and words of a problem's CNF, by the closed forms: no clause is made.
-use crate::literals::width;
 use problem::Node;
-use problem::Sizes;
+use problem::Outline;
 use problem::read::latch_reset;
 use problem::read::node;
 ghost use mathlib.Core.Path.{_≡_};
 ghost use mathlib.Core.Bool.{cond};
-ghost use Prim.Native.Nat.{_+_, _*_, _^_, _<_};
+ghost use Prim.Native.Nat.{ℕ, suc, _+_, _^_, _<_};
 ghost use lib.Dec.{ltb};
-ghost use Rattle.meaning.specs.Problem.{problem};
-ghost use Rattle.meaning.specs.Counts.{fixed-resets, variables-of, clauses-in, words-in};
-ghost use Rattle.problem.specs.Promise.{node-read};
-ghost use Rattle.encoder.specs.Work.{Ready, FormsOf, FewForms, Added, Few, Tallied, tally-of};
+ghost use Rattle.clauses.specs.Lists.{sum};
+ghost use Rattle.meaning.specs.Counts.{fixed-resets, variables-of, item-totals};
+ghost use Rattle.problem.specs.Promise.{node-read, problem-in, ProperIn};
+ghost use Rattle.encoder.specs.Counting.{FormsOf, FewForms, Added, Few, Light, Weighs, Tallied, tally-of};
 
 // The nodes by their form: x=a, "and" and "or", Until and Release.
-pub struct Forms {
-    pub equals: usize,
-    pub ors: usize,
-    pub untils: usize,
+struct Forms {
+    equals: usize,
+    ors: usize,
+    untils: usize,
 }
 
 // What the closed forms are made of.
-pub struct Tally {
-    pub positions: usize,
-    pub width: usize,
-    pub latches: usize,
-    pub fixed: usize,
-    pub gates: usize,
-    pub equals: usize,
-    pub ors: usize,
-    pub untils: usize,
+pub(crate) struct Tally {
+    positions: usize,
+    width: usize,
+    latches: usize,
+    fixed: usize,
+    gates: usize,
+    equals: usize,
+    ors: usize,
+    untils: usize,
+}
+
+// What a clause of one, of two and of three literals weighs, and the clause -E s(0)..s(k).
+struct Weights {
+    one: usize,
+    two: usize,
+    three: usize,
+    long: usize,
 }
 
 // One more where the reset is 0 or 1.
@@ -40,14 +47,13 @@ fn with_reset(n: usize, reset: u32) -> usize
     if reset < 2 { n + 1 } else { n }
 }
 
-fn count_resets(words: &[u32], s: Sizes) -> usize
-    requires { ⌜ Ready (now words) s ⌝ }
-    ensures { λ r. ⌜ r ≡ fixed-resets (problem (now (words .entry)) .latches) ⌝ }
+fn count_resets(words: &[u32], s: Outline) -> usize
+    ensures { λ r. ⌜ r ≡ fixed-resets (problem-in s (now (words .entry)) .latches) ⌝ }
 {
     let mut n: usize = 0;
     let mut i: u32 = 0;
     while i < s.latches {
-        n = with_reset(n, latch_reset(words, i));
+        n = with_reset(n, latch_reset(words, s, i));
         i += 1;
     }
     n
@@ -92,9 +98,8 @@ fn with_node(f: Forms, x: Node) -> Forms
     }
 }
 
-fn count_forms(words: &[u32], s: Sizes) -> Forms
-    requires { ⌜ Ready (now words) s ⌝ }
-    ensures { λ r. ⌜ FormsOf (problem (now (words .entry)) .nodes) r ⌝ }
+fn count_forms(words: &[u32], s: Outline) -> Forms
+    ensures { λ r. ⌜ FormsOf (problem-in s (now (words .entry)) .nodes) r ⌝ }
 {
     let mut f = Forms {
         equals: 0,
@@ -109,15 +114,15 @@ fn count_forms(words: &[u32], s: Sizes) -> Forms
     f
 }
 
-pub(crate) fn tallied(words: &[u32], s: Sizes) -> Tally
-    requires { ⌜ Ready (now words) s ⌝ }
-    ensures { λ r. ⌜ Tallied (problem (now (words .entry))) r ⌝ }
+pub(crate) fn tallied(words: &[u32], s: Outline) -> Tally
+    requires { ⌜ ProperIn s (now words) ⌝ }
+    ensures { λ r. ⌜ Tallied (problem-in s (now (words .entry))) r ⌝ }
 {
     let fixed = count_resets(words, s);
     let f = count_forms(words, s);
     Tally {
         positions: s.bound as usize + 1,
-        width: width(s) as usize,
+        width: s.width as usize,
         latches: s.latches as usize,
         fixed,
         gates: s.gates as usize,
@@ -127,48 +132,89 @@ pub(crate) fn tallied(words: &[u32], s: Sizes) -> Tally
     }
 }
 
-// A product so small that sums of a few such stay words of 64 bits.
-fn times(a: usize, b: usize) -> usize
-    requires { ⌜ (a < 2 ^ 16) × (b < 2 ^ 32) ⌝ }
-    ensures is { λ r. ⌜ r ≡ a * b ⌝ }
-    ensures small { λ r. ⌜ r < 2 ^ 48 ⌝ }
-{
-    a * b
-}
-
 // V: 1, then W variables and a selector for each position, then 2k + 3 for each node.
 pub(crate) fn variables_in(t: Tally) -> usize
-    requires { ⌜ Few t ⌝ }
+    requires { ⌜ Few (tally-of t) ⌝ }
     ensures { λ r. ⌜ r ≡ variables-of (tally-of t) ⌝ }
 {
-    let circuit = times(t.positions, t.width + 1);
-    let nodes = times(t.equals + t.ors + t.untils, 2 * t.positions + 1);
+    let Tally {
+        positions,
+        width,
+        equals,
+        ors,
+        untils,
+        ..
+    } = t;
+    let circuit = positions * (width + 1);
+    let nodes = (equals + ors + untils) * (2 * positions + 1);
     1 + circuit + nodes
 }
 
 // Items 1 to 8 in order; item 7 is P and Q at each position, and then E.
-pub(crate) fn clauses_in(t: Tally) -> usize
-    requires { ⌜ Few t ⌝ }
-    ensures { λ r. ⌜ r ≡ clauses-in (tally-of t) ⌝ }
+fn total_in(t: Tally, w: Weights) -> usize
+    requires { ⌜ Few (tally-of t) × Light w ⌝ }
+    ensures { λ r. ⌜ ((weight : ℕ → ℕ) → Weighs weight (t .positions) w → r ≡ sum (item-totals weight (tally-of t))) ⌝ }
 {
-    let gates = times(t.positions, 3 * t.gates);
-    let steps = times(t.positions - 1, 2 * t.latches);
-    let closing = times(t.positions, 2 * t.latches);
-    let pairs = times(t.positions, t.positions - 1) / 2;
-    let values = times(t.positions, 4 * t.equals + 5 * t.ors + 8 * t.untils);
-    let ends = times(t.equals + t.ors + t.untils, 2 * t.positions + 1);
-    1 + gates + t.fixed + steps + closing + pairs + values + ends + 1
+    let Tally {
+        positions,
+        latches,
+        fixed,
+        gates,
+        equals,
+        ors,
+        untils,
+        ..
+    } = t;
+    let Weights {
+        one,
+        two,
+        three,
+        long,
+    } = w;
+    let equal = 2 * two;
+    let or = 2 * two + three;
+    let until = two + 3 * three;
+    let selected = 2 * three;
+    let gates_item = positions * (gates * or);
+    let resets_item = fixed * one;
+    let steps_item = (positions - 1) * (latches * equal);
+    let closing_item = positions * (latches * selected);
+    let selectors_item = positions * (positions - 1) / 2 * two;
+    let values = equals * (equal + equal) + ors * (or + equal) + untils * (until + until);
+    let ends = positions * selected + long;
+    let nodes_item = positions * values + (equals + ors + untils) * ends;
+    one + gates_item + resets_item + steps_item + closing_item + selectors_item + nodes_item + one
 }
 
-pub(crate) fn words_in(t: Tally) -> usize
-    requires { ⌜ Few t ⌝ }
-    ensures { λ r. ⌜ r ≡ words-in (tally-of t) ⌝ }
+// Each clause is one.
+pub(crate) fn clauses_in(t: Tally) -> usize
+    requires { ⌜ Few (tally-of t) ⌝ }
+    ensures { λ r. ⌜ r ≡ sum (item-totals (λ n. 1) (tally-of t)) ⌝ }
 {
-    let gates = times(t.positions, 10 * t.gates);
-    let steps = times(t.positions - 1, 6 * t.latches);
-    let closing = times(t.positions, 8 * t.latches);
-    let pairs = times(t.positions, t.positions - 1) / 2;
-    let values = times(t.positions, 12 * t.equals + 16 * t.ors + 30 * t.untils);
-    let ends = times(t.equals + t.ors + t.untils, 9 * t.positions + 2);
-    2 + gates + 2 * t.fixed + steps + closing + 3 * pairs + values + ends + 2
+    total_in(
+        t,
+        Weights {
+            one: 1,
+            two: 1,
+            three: 1,
+            long: 1,
+        },
+    )
+}
+
+// A clause of n literals is n + 1 words.
+pub(crate) fn words_in(t: Tally) -> usize
+    requires { ⌜ Few (tally-of t) ⌝ }
+    ensures { λ r. ⌜ r ≡ sum (item-totals suc (tally-of t)) ⌝ }
+{
+    let long = t.positions + 2;
+    total_in(
+        t,
+        Weights {
+            one: 2,
+            two: 3,
+            three: 4,
+            long,
+        },
+    )
 }

@@ -1,7 +1,7 @@
 // The CNF of a problem, and its numbers, for words that nobody has checked yet.
-use crate::Counted;
 use crate::Counts;
 use crate::Encoded;
+use crate::ProblemCounted;
 use crate::circuit::closing;
 use crate::circuit::gates;
 use crate::circuit::resets;
@@ -15,42 +15,34 @@ use crate::nodes::nodes;
 use crate::selectors::selectors;
 use crate::write::clause1;
 use problem::Checked;
-use problem::Sizes;
+use problem::Outline;
 use problem::check::check;
 ghost use mathlib.Core.Path.{_≡_};
 ghost use Rattle.clauses.specs.CnfWords.{words-of};
-ghost use Rattle.meaning.specs.Problem.{problem};
 ghost use Rattle.meaning.specs.Cnf.{cnf};
+ghost use Rattle.problem.specs.Promise.{problem-in, ProperIn};
 ghost use Rattle.encoder.specs.Promise.{EncodedAs, CountedAs, counts-of};
-ghost use Rattle.encoder.specs.Work.{Ready, Room, Wrote, RoomAnswered, first-items};
+ghost use Rattle.encoder.specs.Writing.{Room, Wrote, RoomAnswered};
 
-// Items 1 to 4; "1. (1)."
-fn first_items(words: &[u32], s: Sizes, room: &mut [i32]) -> usize
-    requires { ⌜ Ready (now words) s × Room 0 (first-items (problem (now words))) (now room) ⌝ }
-    ensures { λ r. ⌜ Wrote 0 (words-of (first-items (problem (now (words .entry))))) (now (room .entry)) (now (room .exit)) r ⌝ }
+// Items 1 to 8, each where the one before it ends; "1. (1)."
+pub(crate) fn all_items(words: &[u32], s: Outline, room: &mut [i32]) -> usize
+    requires { ⌜ ProperIn s (now words) × Room 0 (cnf (problem-in s (now words))) (now room) ⌝ }
+    ensures { λ r. ⌜ Wrote 0 (words-of (cnf (problem-in s (now (words .entry))))) (now (room .entry)) (now (room .exit)) r ⌝ }
 {
-    let second = clause1(room, 0, 1);
-    let third = gates(words, s, room, second);
-    let fourth = resets(words, s, room, third);
-    steps(words, s, room, fourth)
-}
-
-// Items 1 to 8.
-fn all_items(words: &[u32], s: Sizes, room: &mut [i32]) -> usize
-    requires { ⌜ Ready (now words) s × Room 0 (cnf (problem (now words))) (now room) ⌝ }
-    ensures { λ r. ⌜ Wrote 0 (words-of (cnf (problem (now (words .entry))))) (now (room .entry)) (now (room .exit)) r ⌝ }
-{
-    let fifth = first_items(words, s, room);
-    let sixth = closing(words, s, room, fifth);
-    let seventh = selectors(words, s, room, sixth);
-    let eighth = nodes(words, s, room, seventh);
-    formula(words, s, room, eighth)
+    let mut next = clause1(room, 0, 1);
+    next = gates(words, s, room, next);
+    next = resets(words, s, room, next);
+    next = steps(words, s, room, next);
+    next = closing(words, s, room, next);
+    next = selectors(s, room, next);
+    next = nodes(words, s, room, next);
+    formula(s, room, next)
 }
 
 // The words needed are known before the first is written.
-fn write_good(words: &[u32], s: Sizes, room: &mut [i32]) -> Encoded
-    requires { ⌜ Ready (now words) s ⌝ }
-    ensures { λ r. ⌜ RoomAnswered (now (words .entry)) (now (room .entry)) r (now (room .exit)) ⌝ }
+fn write_good(words: &[u32], s: Outline, room: &mut [i32]) -> Encoded
+    requires { ⌜ ProperIn s (now words) ⌝ }
+    ensures { λ r. ⌜ RoomAnswered (problem-in s (now (words .entry))) (now (room .entry)) r (now (room .exit)) ⌝ }
 {
     let needed = words_in(tallied(words, s));
     if room.len() < needed {
@@ -70,9 +62,9 @@ pub fn write_cnf(version: u32, words: &[u32], room: &mut [i32]) -> Encoded
     }
 }
 
-fn count_good(words: &[u32], s: Sizes) -> Counts
-    requires { ⌜ Ready (now words) s ⌝ }
-    ensures { λ r. ⌜ r ≡ counts-of (problem (now (words .entry))) ⌝ }
+pub(crate) fn count_good(words: &[u32], s: Outline) -> Counts
+    requires { ⌜ ProperIn s (now words) ⌝ }
+    ensures { λ r. ⌜ r ≡ counts-of (problem-in s (now (words .entry))) ⌝ }
 {
     let t = tallied(words, s);
     Counts {
@@ -83,12 +75,12 @@ fn count_good(words: &[u32], s: Sizes) -> Counts
 }
 
 // The numbers of variables, clauses and words of the CNF, which is not made.
-pub fn counts(version: u32, words: &[u32]) -> Counted
+pub fn counts(version: u32, words: &[u32]) -> ProblemCounted
     ensures { λ r. ⌜ CountedAs version (now (words .entry)) r ⌝ }
 {
     let checked = check(version, words);
     match checked {
-        Checked::Good(s) => Counted::Good(count_good(words, s)),
-        Checked::Refused(f) => Counted::Refused(f),
+        Checked::Good(s) => ProblemCounted::Good(count_good(words, s)),
+        Checked::Refused(f) => ProblemCounted::Refused(f),
     }
 }

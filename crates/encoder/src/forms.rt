@@ -5,7 +5,18 @@ ghost use Prim.Native.Nat.{_+_, _≤_};
 ghost use lib.ListN.{length};
 ghost use Rattle.clauses.specs.CnfWords.{words-of};
 ghost use Rattle.meaning.specs.Cnf.{equal-form, or-form, and-form, until-form, release-form};
-ghost use Rattle.encoder.specs.Work.{Wrote, Negatable, guarded-form, excluded-pair};
+ghost use Rattle.encoder.specs.Numbering.{Negatable};
+ghost use Rattle.encoder.specs.Writing.{Room, Wrote};
+ghost use Rattle.encoder.specs.ItemParts.{form-over, NegatableForm, guarded-form, excluded-pair};
+
+// An op's form over its children, which are literals by now; Until and Release end with one more.
+pub(crate) enum OpForm {
+    Equal(i32),
+    And(i32, i32),
+    Or(i32, i32),
+    Until(i32, i32),
+    Release(i32, i32),
+}
 
 // x=a: (-x a)(x -a)
 pub(crate) fn equal_form(room: &mut [i32], at: usize, x: i32, a: i32) -> usize
@@ -51,6 +62,20 @@ pub(crate) fn release_form(room: &mut [i32], at: usize, x: i32, a: i32, b: i32, 
     ensures { λ r. ⌜ Wrote at (words-of (release-form x a b y)) (now (room .entry)) (now (room .exit)) r ⌝ }
 {
     until_form(room, at, -x, -a, -b, -y)
+}
+
+// x has the form; Until and Release end with y.
+pub(crate) fn form(room: &mut [i32], at: usize, f: OpForm, x: i32, y: i32) -> usize
+    requires { ⌜ NegatableForm f × Negatable x × Negatable y × Room at (form-over f x y) (now room) ⌝ }
+    ensures { λ r. ⌜ Wrote at (words-of (form-over f x y)) (now (room .entry)) (now (room .exit)) r ⌝ }
+{
+    match f {
+        OpForm::Equal(a) => equal_form(room, at, x, a),
+        OpForm::And(a, b) => and_form(room, at, x, a, b),
+        OpForm::Or(a, b) => or_form(room, at, x, a, b),
+        OpForm::Until(a, b) => until_form(room, at, x, a, b, y),
+        OpForm::Release(a, b) => release_form(room, at, x, a, b, y),
+    }
 }
 
 // Where s is true, x=a: (-s -x a)(-s x -a)

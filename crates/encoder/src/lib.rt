@@ -1,16 +1,18 @@
 // Writes the CNF of a problem.
-pub mod circuit;
-pub mod count;
+pub mod answer;
+mod circuit;
+mod count;
 pub mod encode;
-pub mod forms;
-pub mod literals;
-pub mod nodes;
-pub mod selectors;
-pub mod write;
+mod forms;
+mod literals;
+mod nodes;
+pub mod prepare;
+mod selectors;
+mod write;
 
 use problem::Refusal;
 
-// The outcome of writing: the words written, the problem's refusal, or the words needed; specs/Promise.antt gives the number of each.
+// The outcome of writing: the words written, the problem's refusal, or the words needed; `answer` gives the number and the place of each.
 pub enum Encoded {
     Written(usize),
     Problem(Refusal),
@@ -24,7 +26,17 @@ pub struct Counts {
     pub words: usize,
 }
 
-pub enum Counted {
+// The outcome of counting: the numbers of a good problem's CNF, or the problem's refusal.
+pub enum ProblemCounted {
     Good(Counts),
     Refused(Refusal),
+}
+
+// The outcome of writing for a refutation: the numbers of the CNF that was written, or a refusal before it.
+pub enum Prepared {
+    Written(Counts),
+    Problem(Refusal),
+    RoomTooSmall(usize),
+    BadRefutation(usize),
+    AreaTooSmall(usize),
 }

@@ -3,7 +3,7 @@ ghost use mathlib.Core.List.{[], _∷_};
 ghost use Prim.Native.Nat.{_+_, _<_, _≤_};
 ghost use lib.ListN.{length};
 ghost use Rattle.clauses.specs.CnfWords.{ended-by-0};
-ghost use Rattle.encoder.specs.Work.{Wrote};
+ghost use Rattle.encoder.specs.Writing.{Wrote};
 
 pub(crate) fn word(room: &mut [i32], at: usize, w: i32) -> usize
     requires { ⌜ at < length (now room) ⌝ }

@@ -63,5 +63,5 @@ length-within (suc k) n h = go (ltb n 10) refl (length-within k (n / 10) (omega 
     go false e below = omega (arith, length-more n (ltb-false n 10 e))
 
 -- A number of 64 bits has at most 20 digits.
-pub length-u64 : (n : ℕ) → n < 2 ^ 64 → length (decimal n) ≤ 20
-length-u64 n h = length-within 19 n (omega arith)
+pub length-64-bits : (n : ℕ) → n < 2 ^ 64 → length (decimal n) ≤ 20
+length-64-bits n h = length-within 19 n (omega arith)

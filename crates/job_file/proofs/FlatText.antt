@@ -1,4 +1,4 @@
--- The text of flat words is the text of the clauses that they are the words of. Assumes nothing.
+-- The text of flat words is the text of the clauses that they are the words of, and of a problem's CNF. Assumes nothing.
 use mathlib.Core.Path.{_≡_, refl, _∙_, ap}
 use mathlib.Core.Bool.{true}
 use mathlib.Core.List.{List, [], _∷_, _++_}
@@ -10,9 +10,15 @@ use Rattle.clauses.specs.Lists.{each, all-of}
 use Rattle.clauses.specs.Clauses.{Clause}
 use Rattle.clauses.specs.CnfWords.{is-0, ended-by-0, words-of}
 use Rattle.clauses.proofs.Satisfaction.{first-true, second-true}
-use Rattle.clauses.proofs.ReadBack.{not-0, NoZeros}
+use Rattle.clauses.proofs.ReadBack.{not-0, NoZeros, within-no-zeros}
+use Rattle.meaning.specs.Problem.{Problem}
+use Rattle.meaning.specs.Check.{Proper}
+use Rattle.meaning.specs.Cnf.{cnf, cnf-words, variables}
+use Rattle.meaning.specs.Counts.{variable-count, clause-count}
 use Rattle.meaning.specs.JobFile.{bytes-of, signed-decimal, header-line, clause-line, cnf-text}
 use Rattle.meaning.proofs.Numbers.{each-append}
+use Rattle.meaning.proofs.Counts.{variable-count-is, clause-count-is}
+use Rattle.meaning.proofs.Ranges.{literals-within}
 use Rattle.job_file.specs.Text.{word-text, words-text, flat-text}
 
 literal-text : (w : ℤ) → not-0 w ≡ true → word-text w ≡ signed-decimal w ++ bytes-of " "
@@ -26,13 +32,19 @@ literals-text (w ∷ c) e =
 clause-text : (c : Clause) → all-of not-0 c ≡ true → words-text (ended-by-0 c) ≡ clause-line c
 clause-text c e = each-append c (pos 0 ∷ []) word-text ∙ ap (λ (t : List ℕ). t ++ bytes-of "0\n") (literals-text c e)
 
-pub text-of-clauses : (cs : List Clause) → NoZeros cs → words-text (words-of cs) ≡ each cs clause-line
+text-of-clauses : (cs : List Clause) → NoZeros cs → words-text (words-of cs) ≡ each cs clause-line
 text-of-clauses [] e = refl
 text-of-clauses (c ∷ cs) e =
     each-append (ended-by-0 c) (words-of cs) word-text
     ∙ rw (clause-text c (first-true (all-of not-0 c) (all-of (all-of not-0) cs) e))
     (ap (λ (t : List ℕ). clause-line c ++ t) (text-of-clauses cs (second-true (all-of not-0 c) (all-of (all-of not-0) cs) e)))
 
-pub flat-text-of-clauses : (v : ℕ) (cs : List Clause) → NoZeros cs → flat-text v (length cs) (words-of cs) ≡ cnf-text v cs
+flat-text-of-clauses : (v : ℕ) (cs : List Clause) → NoZeros cs → flat-text v (length cs) (words-of cs) ≡ cnf-text v cs
 unfolding flat-text cnf-text
 flat-text-of-clauses v cs e = ap (λ (t : List ℕ). header-line v (length cs) ++ t) (text-of-clauses cs e)
+
+pub text-of-cnf : (p : Problem) → Proper p → flat-text (variable-count p) (clause-count p) (cnf-words p) ≡ cnf-text (variables p) (cnf p)
+unfolding cnf-words
+text-of-cnf p proper =
+    rw (← variable-count-is p (proper .nodes-some), ← clause-count-is p)
+    (flat-text-of-clauses (variables p) (cnf p) (within-no-zeros (variables p) (cnf p) (literals-within p proper)))

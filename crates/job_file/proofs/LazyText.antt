@@ -10,8 +10,8 @@ use Rattle.clauses.specs.Answers.{answer, first-failing, granted}
 use Rattle.clauses.proofs.Answers.{number-of, place-of}
 use Rattle.meaning.specs.Limits.{inputs-limit, latches-limit, gates-limit, nodes-limit, bound-limit, job-limit, program-room}
 use Rattle.meaning.specs.Answers.{bad-job}
-use Rattle.meaning.specs.Problem.{problem}
-use Rattle.meaning.specs.Check.{known-version, part-checks, parts-checked, problem-checked}
+use Rattle.meaning.specs.Problem.{header-words, problem-by, problem}
+use Rattle.meaning.specs.Check.{problem-checked}
 use Rattle.meaning.specs.Cnf.{variables, cnf, cnf-words}
 use Rattle.meaning.specs.Calls.{room-checked, write-cnf}
 use Rattle.meaning.specs.JobFile.{job-words, job-checks, job-checked, decimal, header-line, cnf-text, refusal-line, job-answer, printed}
@@ -23,19 +23,20 @@ use Rattle.job_file.specs.declared.text.Printed.{Printed}
 use Rattle.job_file.specs.declared.text.Printed.the-variants.{Bytes, Short}
 use Rattle.job_file.specs.Text.{words-text, flat-text}
 use Rattle.job_file.specs.Promise.{job-answered, JobRead, Prints}
-use Rattle.job_file.proofs.Printing.{length-header, written-whole, short-without-room}
+use Rattle.job_file.proofs.Prints.{written-whole, short-without-room}
+use Rattle.job_file.proofs.TextLengths.{length-header}
 
 -- ════════ A job file read ════════
 
 abbrev pub other-version : List ℕ
-other-version = 2 ∷ 0 ∷ 0 ∷ 0 ∷ 0 ∷ []
+other-version = 9 ∷ 0 ∷ 0 ∷ 0 ∷ 0 ∷ []
 
 other-version-answer : first-failing (job-checks other-version) (granted 0) ≡ bad-job 0
-unfolding job-checks job-limit known-version
+unfolding job-checks job-limit header-words
 other-version-answer = refl
 
 T-answer : first-failing (job-checks T-file) (granted 0) ≡ granted 0
-unfolding job-checks job-limit known-version
+unfolding job-checks job-limit header-words
 T-answer = refl
 
 pub made-up-place-breaks : (j : Job) (p : ℕ) → j .answer ≡ Bad p → ¬ (p ≡ 0) → ¬ (JobRead other-version j)
@@ -84,7 +85,7 @@ other-number-breaks r p = let z : _≡_ {A = ℕ} 52 53 = ap (λ (bs : List ℕ)
 
 -- One text for case T and for a job of another version.
 pub same-for-all-breaks : (n : ℕ) (out left : List ℕ) → ¬ (Prints (printed T-file) out (Bytes n) left × Prints (printed other-version) out (Bytes n) left)
-unfolding problem cnf cnf-words variables known-version inputs-limit latches-limit gates-limit nodes-limit bound-limit part-checks parts-checked problem-checked room-checked write-cnf job-limit program-room job-words job-checks job-checked decimal cnf-text refusal-line job-answer printed
+unfolding header-words problem-by problem cnf cnf-words variables inputs-limit latches-limit gates-limit nodes-limit bound-limit problem-checked room-checked write-cnf job-limit program-room job-words job-checks job-checked decimal cnf-text refusal-line job-answer printed
 same-for-all-breaks n out left (p, q) =
     let z : length T-text ≡ 16 = sym ((written-whole p) .0) ∙ (written-whole q) .0 in
     omega arith

@@ -1,11 +1,15 @@
 -- The plain mathematics of the crate's proofs.
 pub mod Buffers
-pub mod JobBytes
+pub mod JobChecks
+pub mod ReadWords
 pub mod Decimals
-pub mod Printing
+pub mod WordText
+pub mod WordsText
+pub mod Prints
+pub mod TextLengths
 pub mod FlatText
-pub mod Sizes
 pub mod Unique
-pub mod JobText
-pub mod LazyText
+pub mod WriteCnf
+pub mod PrintJob
 pub mod TextRoom
+pub mod LazyText

@@ -7,12 +7,12 @@ use lib.Dec.{eqb}
 use lib.IntN.{ℤ}
 use lib.ListN.{length, take, drop}
 use Rattle.clauses.specs.Lists.{each, written}
-use Rattle.clauses.specs.Answers.{Answer}
 use Rattle.clauses.specs.CnfWords.{is-0}
 use Rattle.meaning.specs.Limits.{program-room}
-use Rattle.meaning.specs.Problem.{problem}
-use Rattle.meaning.specs.Cnf.{cnf, variables}
-use Rattle.meaning.specs.JobFile.{bytes-of, decimal, signed-decimal, header-line, cnf-text, refusal-line}
+use Rattle.meaning.specs.JobFile.{bytes-of, decimal, signed-decimal, header-line, refusal-line}
+use Rattle.encoder.specs.declared.Counts.{Counts}
+use Rattle.encoder.specs.declared.Encoded.{Encoded}
+use Rattle.encoder.specs.Promise.{answer-of}
 
 -- ════════ The text ════════
 
@@ -30,9 +30,10 @@ flat-text v c ws = header-line v c ++ words-text ws
 abbrev pub line-of : List ℕ → ℕ → List ℕ → ℕ → List ℕ
 line-of opening first between second = opening ++ decimal first ++ between ++ decimal second ++ bytes-of "\n"
 
--- What is printed for words by the answer to them: the CNF's text, or the refusal's line.
-abbrev pub answer-text : Answer → List ℕ → List ℕ
-answer-text a ws = cond (eqb (a .number) 0) (cnf-text (variables (problem ws)) (cnf (problem ws))) (refusal-line a)
+-- What is printed by the outcome of writing: the text of the counts and of the words that were written to the room, or the refusal's line.
+abbrev pub encoded-text : Encoded → Counts → List ℤ → List ℕ
+encoded-text r c room =
+    cond (eqb (answer-of r .number) 0) (flat-text (c .variables) (c .clauses) (take (answer-of r .place) room)) (refusal-line (answer-of r))
 
 -- Bytes enough for every text of the program: 12 for each of its CNF words (a sign, ten digits, a space), and 28 for the header (8 of its
 -- own, ten digits for each of its numbers).

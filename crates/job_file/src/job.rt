@@ -1,5 +1,5 @@
 // A job file's bytes, checked and read as words.
-use problem::check::VERSION;
+use problem::header::known_version;
 ghost use mathlib.Core.Path.{_≡_};
 ghost use Prim.Native.Nat.{_+_, _*_, _≤_};
 ghost use lib.ListN.{length};
@@ -14,12 +14,10 @@ pub const JOB_LIMIT: usize = 16384;
 // The version byte and the four bytes of the length.
 const JOB_HEADER: usize = 5;
 
-const KNOWN_VERSION: u8 = VERSION as u8;
-
 // Room for the words of every job that is not refused.
 const WORDS_ROOM: usize = JOB_LIMIT / 4;
 
-// 15 at a place; specs/Promise.antt gives the number.
+// 15 at a place; `answer` gives the number.
 pub enum JobAnswer {
     Good,
     Bad(usize),
@@ -55,7 +53,8 @@ fn checked(bytes: &[u8]) -> JobAnswer
     if bytes.len() < JOB_HEADER {
         return JobAnswer::Bad(bytes.len());
     }
-    if bytes[0] != KNOWN_VERSION {
+    let version = bytes[0] as u32;
+    if !known_version(version) {
         return JobAnswer::Bad(0);
     }
     let rest = number(bytes, 1) as usize;
@@ -81,7 +80,7 @@ fn read_words(bytes: &[u8], count: usize, out: &mut [u32])
 }
 
 // A job file read: refused with 15, or its version and its words.
-pub fn read_job(bytes: &[u8]) -> Job
+pub(crate) fn read_job(bytes: &[u8]) -> Job
     ensures { λ r. ⌜ JobRead (now (bytes .entry)) r ⌝ }
 {
     let mut words = [0u32; WORDS_ROOM];

@@ -19,7 +19,7 @@ pub(crate) fn put_bytes(text: &[u8], at: usize, out: &mut [u8]) -> usize
 }
 
 // How many decimal digits a number has.
-pub(crate) fn digits(n: u64) -> usize
+pub(crate) fn digits(n: usize) -> usize
     ensures { λ r. ⌜ r ≡ length (decimal n) ⌝ }
 {
     let mut count = 1;
@@ -32,7 +32,7 @@ pub(crate) fn digits(n: u64) -> usize
 }
 
 // A number's decimal digits, the last one first, and the place after them.
-pub(crate) fn put_number(n: u64, at: usize, out: &mut [u8]) -> usize
+pub(crate) fn put_number(n: usize, at: usize, out: &mut [u8]) -> usize
     requires { ⌜ at + length (decimal n) ≤ length (now out) ⌝ }
     ensures { λ r. ⌜ Put (decimal n) at (now (out .entry)) r (now (out .exit)) ⌝ }
 {
@@ -51,9 +51,9 @@ pub(crate) fn put_number(n: u64, at: usize, out: &mut [u8]) -> usize
 // A line of two numbers, with what opens it and what stands between them.
 pub(crate) fn put_line(
     opening: &[u8],
-    first: u64,
+    first: usize,
     between: &[u8],
-    second: u64,
+    second: usize,
     out: &mut [u8],
 ) -> usize
     requires { ⌜ length (line-of (now opening) first (now between) second) ≤ length (now out) ⌝ }

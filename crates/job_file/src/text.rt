@@ -38,9 +38,9 @@ fn word_size(w: i32) -> usize
         return 2;
     }
     if w < 0 {
-        return digits(variable(w) as u64) + 2;
+        return digits(variable(w)) + 2;
     }
-    digits(variable(w) as u64) + 1
+    digits(variable(w)) + 1
 }
 
 fn put_word(w: i32, at: usize, out: &mut [u8]) -> usize
@@ -52,11 +52,11 @@ fn put_word(w: i32, at: usize, out: &mut [u8]) -> usize
     }
     if w < 0 {
         out[at] = b'-';
-        let end = put_number(variable(w) as u64, at + 1, out);
+        let end = put_number(variable(w), at + 1, out);
         out[end] = b' ';
         return end + 1;
     }
-    let end = put_number(variable(w) as u64, at, out);
+    let end = put_number(variable(w), at, out);
     out[end] = b' ';
     end + 1
 }
@@ -86,37 +86,37 @@ fn put_words(cnf: &[i32], at: usize, out: &mut [u8]) -> usize
     next
 }
 
-fn header_size(variables: u32, clauses: u32) -> usize
+fn header_size(variables: usize, clauses: usize) -> usize
     ensures { λ r. ⌜ r ≡ length (header-line variables clauses) ⌝ }
 {
-    digits(variables as u64) + digits(clauses as u64) + 8
+    digits(variables) + digits(clauses) + 8
 }
 
 // The text of a CNF given as words, each clause ended by 0.
-pub fn cnf_text(variables: u32, clauses: u32, cnf: &[i32], out: &mut [u8]) -> Printed
+pub(crate) fn cnf_text(variables: usize, clauses: usize, cnf: &[i32], out: &mut [u8]) -> Printed
     ensures { λ r. ⌜ Prints (flat-text variables clauses (now (cnf .entry))) (now (out .entry)) r (now (out .exit)) ⌝ }
 {
     let needed = sum(header_size(variables, clauses), words_size(cnf));
     if out.len() < needed {
         return Printed::Short(needed);
     }
-    let next = put_line(b"p cnf ", variables as u64, b" ", clauses as u64, out);
+    let next = put_line(b"p cnf ", variables, b" ", clauses, out);
     Printed::Bytes(put_words(cnf, next, out))
 }
 
-fn refusal_size(number: u32, place: u64) -> usize
+fn refusal_size(number: u32, place: usize) -> usize
     ensures { λ r. ⌜ r ≡ length (refusal-line (answer number place)) ⌝ }
 {
-    digits(number as u64) + digits(place) + 13
+    digits(number as usize) + digits(place) + 13
 }
 
 // The line of a refusal.
-pub fn refusal_text(number: u32, place: u64, out: &mut [u8]) -> Printed
+pub(crate) fn refusal_text(number: u32, place: usize, out: &mut [u8]) -> Printed
     ensures { λ r. ⌜ Prints (refusal-line (answer number place)) (now (out .entry)) r (now (out .exit)) ⌝ }
 {
     let needed = refusal_size(number, place);
     if out.len() < needed {
         return Printed::Short(needed);
     }
-    Printed::Bytes(put_line(b"refused ", number as u64, b" at ", place, out))
+    Printed::Bytes(put_line(b"refused ", number as usize, b" at ", place, out))
 }

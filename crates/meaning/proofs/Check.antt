@@ -1,20 +1,20 @@
 -- The check says yes exactly to well-formed words, and their problem is proper. Assumes nothing.
-use mathlib.Core.Path.{_≡_, refl, sym, _∙_}
+use mathlib.Core.Path.{_≡_, refl, sym, _∙_, ap}
 use mathlib.Core.Logic.{_↔_}
 use mathlib.Core.Bool.{Bool, true, false, true≢false}
 use mathlib.Core.List.{List, [], _∷_, _++_}
-use Prim.Native.Nat.{ℕ, zero, suc, _+_, _*_, _<_}
+use Prim.Native.Nat.{ℕ, zero, suc, _+_, _*_, _≤_, _<_, zero-le}
 use native.Mathlib.Omega.{arith}
-use borrow.Author.Tests.{leb-true, le-leb, eqb-true, eq-eqb}
-use lib.Dec.{leb, lit<}
-use lib.ListN.{length, getD}
-use Rattle.clauses.specs.Lists.{numbers, each, all-of}
+use borrow.Author.Tests.{leb-true, le-leb, ltb-true, lt-ltb, eqb-true, eq-eqb}
+use lib.Dec.{leb, ltb, lit<}
+use lib.ListN.{length, getD, List·getD-eq-default}
+use Rattle.clauses.specs.Lists.{all-of, joined}
 use Rattle.clauses.specs.Answers.{Answer, Check, check, first-failing, granted}
 use Rattle.clauses.proofs.Satisfaction.{both-true, false-if-not-true, all-of-append, all-of-first, all-of-second, all-of-at, first-true, second-true}
 use Rattle.clauses.proofs.Answers.{passing, refusing, first-failing-append, first-failing-passed, all-pass-if-yes, number-of}
-use Rattle.meaning.specs.Limits.{nodes-limit}
-use Rattle.meaning.specs.Problem.{Problem, W, latch, gate, node, Header, header, word, node-place, children, node-of, read-latch, read-gate, read-node, problem}
-use Rattle.meaning.specs.Check.{largest-literal, first-right, second-right, children-of, opening-checks, latch-checks, gate-checks, node-checks, part-checks, parts-checked, problem-checked, check-problem, LatchRight, GateRight, FirstRight, SecondRight, NodeRight, WellFormed, NodeProper, Proper}
+use Rattle.meaning.specs.Problem.{Problem, Latch, Gate, Node, atom, W, latch, gate, node, Outline, outline, header-words, word, node-place, words-in-all, children, node-of, read-latch, read-gate, read-node, problem-by, problem}
+use Rattle.meaning.specs.Check.{largest-literal, first-right, second-right, children-of, header-checks, limit-check, limit-checks, length-checks, latch-checks, gate-checks, node-checks, each-below, check-parts, first-failing-part, problem-checked, check-problem, LatchRight, GateRight, FirstRight, SecondRight, NodeRight, InLimits, WellFormed, NodeProper, Proper}
+use Rattle.meaning.proofs.ItemByItem.{_and_, all-of-joined}
 use Rattle.meaning.proofs.Numbers.{length-map-numbers, getD-map-numbers, all-of-each-below, all-of-below}
 
 -- ════════ Tests and checks in general ════════
@@ -36,13 +36,13 @@ passes-at cs k = all-of-at passing cs k (check true (granted 0))
 
 -- ════════ One latch, gate or node ════════
 
-first-passes : (h : Header) (n c a : ℕ) → FirstRight h n c a → first-right h n c a ≡ true
-first-passes h n zero a r = le-leb _ _ r
-first-passes h n (suc c) a r = le-leb _ _ r
+first-passes : (o : Outline) (n c a : ℕ) → FirstRight o n c a → first-right o n c a ≡ true
+first-passes o n zero a r = le-leb _ _ r
+first-passes o n (suc c) a r = le-leb _ _ r
 
-first-if-passes : (h : Header) (n c a : ℕ) → first-right h n c a ≡ true → FirstRight h n c a
-first-if-passes h n zero a e = leb-true _ _ e
-first-if-passes h n (suc c) a e = leb-true _ _ e
+first-if-passes : (o : Outline) (n c a : ℕ) → first-right o n c a ≡ true → FirstRight o n c a
+first-if-passes o n zero a e = leb-true _ _ e
+first-if-passes o n (suc c) a e = leb-true _ _ e
 
 second-passes : (n c b : ℕ) → SecondRight n c b → second-right n c b ≡ true
 second-passes n zero b r = eq-eqb b 0 r
@@ -54,131 +54,130 @@ second-if-passes n zero b e = eqb-true b 0 e
 second-if-passes n (suc zero) b e = eqb-true b 0 e
 second-if-passes n (suc (suc c)) b e = leb-true _ _ e
 
-module _ (h : Header) (ws : List ℕ) (i : ℕ) where
-  latch-passes : LatchRight h ws i → all-of passing (latch-checks h ws i) ≡ true
+module _ (o : Outline) (ws : List ℕ) (i : ℕ) where
+  latch-passes : LatchRight o ws i → all-of passing (latch-checks o ws i) ≡ true
   latch-passes r = both-true (le-leb _ _ (r .next-in-range)) (both-true (le-leb _ _ (r .reset-in-range)) refl)
 
-  latch-if-passes : all-of passing (latch-checks h ws i) ≡ true → LatchRight h ws i
+  latch-if-passes : all-of passing (latch-checks o ws i) ≡ true → LatchRight o ws i
   latch-if-passes e = record {
-    next-in-range = leb-true _ _ (passes-at (latch-checks h ws i) 0 e (lit< tt));
-    reset-in-range = leb-true _ _ (passes-at (latch-checks h ws i) 1 e (lit< tt));
+    next-in-range = leb-true _ _ (passes-at (latch-checks o ws i) 0 e (lit< tt));
+    reset-in-range = leb-true _ _ (passes-at (latch-checks o ws i) 1 e (lit< tt));
   }
 
-  gate-passes : GateRight h ws i → all-of passing (gate-checks h ws i) ≡ true
+  gate-passes : GateRight o ws i → all-of passing (gate-checks o ws i) ≡ true
   gate-passes r = both-true (le-leb _ _ (r .left-below)) (both-true (le-leb _ _ (r .right-below)) refl)
 
-  gate-if-passes : all-of passing (gate-checks h ws i) ≡ true → GateRight h ws i
+  gate-if-passes : all-of passing (gate-checks o ws i) ≡ true → GateRight o ws i
   gate-if-passes e = record {
-    left-below = leb-true _ _ (passes-at (gate-checks h ws i) 0 e (lit< tt));
-    right-below = leb-true _ _ (passes-at (gate-checks h ws i) 1 e (lit< tt));
+    left-below = leb-true _ _ (passes-at (gate-checks o ws i) 0 e (lit< tt));
+    right-below = leb-true _ _ (passes-at (gate-checks o ws i) 1 e (lit< tt));
   }
 
-  node-passes : NodeRight h ws i → all-of passing (node-checks h ws i) ≡ true
+  node-passes : NodeRight o ws i → all-of passing (node-checks o ws i) ≡ true
   node-passes r =
-      let op = word ws (node-place h i) in
+      let op = word ws (node-place o i) in
       both-true (le-leb _ _ (r .op-known))
-      (both-true (first-passes h i (children-of op) (word ws (node-place h i + 1)) (r .first-word))
-      (both-true (second-passes i (children-of op) (word ws (node-place h i + 2)) (r .second-word)) refl))
+      (both-true (first-passes o i (children-of op) (word ws (node-place o i + 1)) (r .first-word))
+      (both-true (second-passes i (children-of op) (word ws (node-place o i + 2)) (r .second-word)) refl))
 
-  node-if-passes : all-of passing (node-checks h ws i) ≡ true → NodeRight h ws i
+  node-if-passes : all-of passing (node-checks o ws i) ≡ true → NodeRight o ws i
   node-if-passes e =
-      let op = word ws (node-place h i) in
+      let op = word ws (node-place o i) in
       record {
-        op-known = leb-true _ _ (passes-at (node-checks h ws i) 0 e (lit< tt));
-        first-word = first-if-passes h i (children-of op) (word ws (node-place h i + 1)) (passes-at (node-checks h ws i) 1 e (lit< tt));
-        second-word = second-if-passes i (children-of op) (word ws (node-place h i + 2)) (passes-at (node-checks h ws i) 2 e (lit< tt));
+        op-known = leb-true _ _ (passes-at (node-checks o ws i) 0 e (lit< tt));
+        first-word = first-if-passes o i (children-of op) (word ws (node-place o i + 1)) (passes-at (node-checks o ws i) 1 e (lit< tt));
+        second-word = second-if-passes i (children-of op) (word ws (node-place o i + 2)) (passes-at (node-checks o ws i) 2 e (lit< tt));
       }
+
+-- ════════ The parts of a check, any number of them ════════
+
+pub first-failing-joined : (ps : List (List Check)) (after : Answer) → first-failing-part ps after ≡ first-failing (joined ps) after
+first-failing-joined [] after = refl
+first-failing-joined (p ∷ ps) after = ap (first-failing p) (first-failing-joined ps after) ∙ sym (first-failing-append p (joined ps) after)
 
 -- ════════ All checks ════════
 
--- The checks of a problem in their order, as one list.
 abbrev pub all-checks : ℕ → List ℕ → List Check
-all-checks version ws = opening-checks version ws ++ part-checks ws
+all-checks version ws = joined (check-parts version ws)
 
 pub checked-by-all : (version : ℕ) (ws : List ℕ) (after : Answer)
     → problem-checked version ws after ≡ first-failing (all-checks version ws) after
-unfolding problem-checked parts-checked
-checked-by-all version ws after = sym (first-failing-append (opening-checks version ws) (part-checks ws) after)
+unfolding problem-checked
+checked-by-all version ws after = first-failing-joined (check-parts version ws) after
 
--- The checks of all latches, of all gates and of all nodes.
-abbrev latches-checks : List ℕ → List Check
-latches-checks ws = each (numbers 0 (header ws .latches)) (latch-checks (header ws) ws)
+-- The word at a place of the header is within its limits.
+limit-passes : (ws : List ℕ) (i least most : ℕ) → least ≤ word ws i → word ws i ≤ most → limit-check ws i least most .passes ≡ true
+limit-passes ws i least most l m = both-true (le-leb _ _ l) (le-leb _ _ m)
 
-abbrev gates-checks : List ℕ → List Check
-gates-checks ws = each (numbers 0 (header ws .gates)) (gate-checks (header ws) ws)
+module _ (ws : List ℕ) (i least most : ℕ) (e : limit-check ws i least most .passes ≡ true) where
+  least-if-passes : least ≤ word ws i
+  least-if-passes = leb-true _ _ (first-true (leb least (word ws i)) (leb (word ws i) most) e)
 
-abbrev nodes-checks : List ℕ → List Check
-nodes-checks ws = each (numbers 0 (header ws .nodes)) (node-checks (header ws) ws)
+  most-if-passes : word ws i ≤ most
+  most-if-passes = leb-true _ _ (second-true (leb least (word ws i)) (leb (word ws i) most) e)
 
-module _ (f : Check → Bool) (ws : List ℕ) where
-  -- Every check of the parts passes a test exactly if those of each latch, gate and node do.
-  pub all-of-parts :
-      ((i : ℕ) → i < header ws .latches → all-of f (latch-checks (header ws) ws i) ≡ true)
-      → ((j : ℕ) → j < header ws .gates → all-of f (gate-checks (header ws) ws j) ≡ true)
-      → ((n : ℕ) → n < header ws .nodes → all-of f (node-checks (header ws) ws n) ≡ true)
-      → all-of f (part-checks ws) ≡ true
-  unfolding part-checks
-  all-of-parts l g n =
-      rw (all-of-append, all-of-append) (both-true
-      (both-true (all-of-each-below f _ (header ws .latches) l) (all-of-each-below f _ (header ws .gates) g))
-      (all-of-each-below f _ (header ws .nodes) n))
+module _ (version : ℕ) (ws : List ℕ) where
+  abbrev o : Outline
+  o = outline version ws
 
-  module _ (e : all-of f (part-checks ws) ≡ true) where
-    pub all-of-latch : (i : ℕ) → i < header ws .latches → all-of f (latch-checks (header ws) ws i) ≡ true
-    unfolding part-checks
-    all-of-latch =
-        all-of-below f _ (header ws .latches)
-        (all-of-first f (latches-checks ws) (gates-checks ws) (all-of-first f (latches-checks ws ++ gates-checks ws) (nodes-checks ws) e))
+  pub all-checks-refusing : all-of refusing (all-checks version ws) ≡ true
+  all-checks-refusing =
+      all-of-joined refusing (check-parts version ws) .1
+      (refl
+      and refl
+      and refl
+      and all-of-each-below refusing (latch-checks o ws) (o .latches) (λ i l. refl)
+      and all-of-each-below refusing (gate-checks o ws) (o .gates) (λ j l. refl)
+      and all-of-each-below refusing (node-checks o ws) (o .nodes) (λ n l. refl)
+      and tt)
 
-    pub all-of-gate : (j : ℕ) → j < header ws .gates → all-of f (gate-checks (header ws) ws j) ≡ true
-    unfolding part-checks
-    all-of-gate =
-        all-of-below f _ (header ws .gates)
-        (all-of-second f (latches-checks ws) (gates-checks ws) (all-of-first f (latches-checks ws ++ gates-checks ws) (nodes-checks ws) e))
+  pub limits-pass : InLimits o → all-of passing (limit-checks ws) ≡ true
+  limits-pass w =
+      both-true (limit-passes ws 0 _ _ zero-le (w .inputs-within))
+      (both-true (limit-passes ws 1 _ _ zero-le (w .latches-within))
+      (both-true (limit-passes ws 2 _ _ zero-le (w .gates-within))
+      (both-true (limit-passes ws 3 _ _ (w .nodes-some) (w .nodes-within))
+      (both-true (limit-passes ws 4 _ _ zero-le (w .bound-within)) refl))))
 
-    pub all-of-node : (n : ℕ) → n < header ws .nodes → all-of f (node-checks (header ws) ws n) ≡ true
-    unfolding part-checks
-    all-of-node = all-of-below f _ (header ws .nodes) (all-of-second f (latches-checks ws ++ gates-checks ws) (nodes-checks ws) e)
+  pub in-limits-if-pass : all-of passing (limit-checks ws) ≡ true → InLimits o
+  in-limits-if-pass e = record {
+    inputs-within = most-if-passes ws 0 _ _ (passes-at (limit-checks ws) 0 e (lit< tt));
+    latches-within = most-if-passes ws 1 _ _ (passes-at (limit-checks ws) 1 e (lit< tt));
+    gates-within = most-if-passes ws 2 _ _ (passes-at (limit-checks ws) 2 e (lit< tt));
+    nodes-some = least-if-passes ws 3 _ _ (passes-at (limit-checks ws) 3 e (lit< tt));
+    nodes-within = most-if-passes ws 3 _ _ (passes-at (limit-checks ws) 3 e (lit< tt));
+    bound-within = most-if-passes ws 4 _ _ (passes-at (limit-checks ws) 4 e (lit< tt));
+  }
 
-pub all-checks-refusing : (version : ℕ) (ws : List ℕ) → all-of refusing (all-checks version ws) ≡ true
-all-checks-refusing version ws = all-of-parts refusing ws (λ i l. refl) (λ j l. refl) (λ n l. refl)
+  pub all-pass-if-well-formed : WellFormed version ws → all-of passing (all-checks version ws) ≡ true
+  all-pass-if-well-formed w =
+      all-of-joined passing (check-parts version ws) .1
+      (both-true (lt-ltb _ _ (w .version-known)) (both-true (le-leb _ _ (w .header-there)) refl)
+      and limits-pass (w .in-limits)
+      and both-true (eq-eqb _ _ (w .length-right)) refl
+      and all-of-each-below passing (latch-checks o ws) (o .latches) (λ i l. latch-passes o ws i (w .latches-right i l))
+      and all-of-each-below passing (gate-checks o ws) (o .gates) (λ j l. gate-passes o ws j (w .gates-right j l))
+      and all-of-each-below passing (node-checks o ws) (o .nodes) (λ n l. node-passes o ws n (w .nodes-right n l))
+      and tt)
 
-pub all-pass-if-well-formed : (version : ℕ) (ws : List ℕ) → WellFormed version ws → all-of passing (all-checks version ws) ≡ true
-all-pass-if-well-formed version ws w =
-    both-true (eq-eqb _ _ (w .version-known))
-    (both-true (le-leb _ _ (w .header-there))
-    (both-true (le-leb _ _ (w .inputs-within))
-    (both-true (le-leb _ _ (w .latches-within))
-    (both-true (le-leb _ _ (w .gates-within))
-    (both-true (both-true (le-leb _ _ (w .nodes-some)) (le-leb _ _ (w .nodes-within)))
-    (both-true (le-leb _ _ (w .bound-within))
-    (both-true (eq-eqb _ _ (w .length-right))
-    (all-of-parts passing ws
-    (λ i l. latch-passes (header ws) ws i (w .latches-right i l))
-    (λ j l. gate-passes (header ws) ws j (w .gates-right j l))
-    (λ n l. node-passes (header ws) ws n (w .nodes-right n l))))))))))
-
-pub well-formed-if-all-pass : (version : ℕ) (ws : List ℕ) → all-of passing (all-checks version ws) ≡ true → WellFormed version ws
-well-formed-if-all-pass version ws e = record {
-  version-known = eqb-true _ _ (opening 0 (lit< tt));
-  header-there = leb-true _ _ (opening 1 (lit< tt));
-  inputs-within = leb-true _ _ (opening 2 (lit< tt));
-  latches-within = leb-true _ _ (opening 3 (lit< tt));
-  gates-within = leb-true _ _ (opening 4 (lit< tt));
-  nodes-some = leb-true _ _ (first-true (leb 1 (header ws .nodes)) (leb (header ws .nodes) nodes-limit) (opening 5 (lit< tt)));
-  nodes-within = leb-true _ _ (second-true (leb 1 (header ws .nodes)) (leb (header ws .nodes) nodes-limit) (opening 5 (lit< tt)));
-  bound-within = leb-true _ _ (opening 6 (lit< tt));
-  length-right = eqb-true _ _ (opening 7 (lit< tt));
-  latches-right = λ i l. latch-if-passes (header ws) ws i (all-of-latch passing ws parts i l);
-  gates-right = λ j l. gate-if-passes (header ws) ws j (all-of-gate passing ws parts j l);
-  nodes-right = λ n l. node-if-passes (header ws) ws n (all-of-node passing ws parts n l);
-}
-  where
-    opening : (k : ℕ) → k < 8 → (getD (opening-checks version ws) k (check true (granted 0))) .passes ≡ true
-    opening k = passes-at (opening-checks version ws) k (all-of-first passing (opening-checks version ws) (part-checks ws) e)
-
-    parts : all-of passing (part-checks ws) ≡ true
-    parts = all-of-second passing (opening-checks version ws) (part-checks ws) e
+  pub well-formed-if-all-pass : all-of passing (all-checks version ws) ≡ true → WellFormed version ws
+  well-formed-if-all-pass e =
+      let parts = all-of-joined passing (check-parts version ws) .0 e in
+      let header = parts .0 in
+      let limits = parts .1 .0 in
+      let lengths = parts .1 .1 .0 in
+      let latches = parts .1 .1 .1 .0 in
+      let gates = parts .1 .1 .1 .1 .0 in
+      let nodes = parts .1 .1 .1 .1 .1 .0 in
+      record {
+        version-known = ltb-true _ _ (passes-at (header-checks version ws) 0 header (lit< tt));
+        header-there = leb-true _ _ (passes-at (header-checks version ws) 1 header (lit< tt));
+        in-limits = in-limits-if-pass limits;
+        length-right = eqb-true _ _ (passes-at (length-checks o ws) 0 lengths (lit< tt));
+        latches-right = λ i l. latch-if-passes o ws i (all-of-below passing (latch-checks o ws) (o .latches) latches i l);
+        gates-right = λ j l. gate-if-passes o ws j (all-of-below passing (gate-checks o ws) (o .gates) gates j l);
+        nodes-right = λ n l. node-if-passes o ws n (all-of-below passing (node-checks o ws) (o .nodes) nodes n l);
+      }
 
 -- ════════ What the answer says ════════
 
@@ -205,80 +204,102 @@ not-well-formed version ws a b n =
     (first-failing-refused (all-checks version ws) a b
     (false-if-not-true (all-of passing (all-checks version ws)) (λ e. n (well-formed-if-all-pass version ws e))))
 
--- ════════ What the problem of the words holds ════════
+-- ════════ What the problem of an outline holds ════════
 
-module _ (ws : List ℕ) where
-  pub inputs-of-words : problem ws .inputs ≡ header ws .inputs
-  unfolding problem
-  inputs-of-words = refl
+module _ (o : Outline) (ws : List ℕ) where
+  pub inputs-by : problem-by o ws .inputs ≡ o .inputs
+  unfolding problem-by
+  inputs-by = refl
 
-  pub bound-of-words : problem ws .bound ≡ header ws .bound
-  unfolding problem
-  bound-of-words = refl
+  pub bound-by : problem-by o ws .bound ≡ o .bound
+  unfolding problem-by
+  bound-by = refl
 
-  pub latches-of-words : length (problem ws .latches) ≡ header ws .latches
-  unfolding problem
-  latches-of-words = length-map-numbers (read-latch ws) 0 (header ws .latches)
+  pub latches-by : length (problem-by o ws .latches) ≡ o .latches
+  unfolding problem-by
+  latches-by = length-map-numbers (read-latch o ws) 0 (o .latches)
 
-  pub gates-of-words : length (problem ws .gates) ≡ header ws .gates
-  unfolding problem
-  gates-of-words = length-map-numbers (read-gate ws) 0 (header ws .gates)
+  pub gates-by : length (problem-by o ws .gates) ≡ o .gates
+  unfolding problem-by
+  gates-by = length-map-numbers (read-gate o ws) 0 (o .gates)
 
-  pub nodes-of-words : length (problem ws .nodes) ≡ header ws .nodes
-  unfolding problem
-  nodes-of-words = length-map-numbers (read-node ws) 0 (header ws .nodes)
+  pub nodes-by : length (problem-by o ws .nodes) ≡ o .nodes
+  unfolding problem-by
+  nodes-by = length-map-numbers (read-node o ws) 0 (o .nodes)
 
-  pub W-of-words : W (problem ws) ≡ header ws .inputs + header ws .latches + header ws .gates
-  W-of-words = rw (inputs-of-words, latches-of-words, gates-of-words)
+  pub W-by : W (problem-by o ws) ≡ o .inputs + o .latches + o .gates
+  W-by = rw (inputs-by, latches-by, gates-by)
 
-  pub latch-of-words : (i : ℕ) → i < header ws .latches → latch (problem ws) i ≡ read-latch ws i
-  unfolding problem
-  latch-of-words i l = getD-map-numbers (read-latch ws) (header ws .latches) i _ l
+  pub latch-by : (i : ℕ) → i < o .latches → latch (problem-by o ws) i ≡ read-latch o ws i
+  unfolding problem-by
+  latch-by i l = getD-map-numbers (read-latch o ws) (o .latches) i _ l
 
-  pub gate-of-words : (j : ℕ) → j < header ws .gates → gate (problem ws) j ≡ read-gate ws j
-  unfolding problem
-  gate-of-words j l = getD-map-numbers (read-gate ws) (header ws .gates) j _ l
+  pub gate-by : (j : ℕ) → j < o .gates → gate (problem-by o ws) j ≡ read-gate o ws j
+  unfolding problem-by
+  gate-by j l = getD-map-numbers (read-gate o ws) (o .gates) j _ l
 
-  pub node-of-words : (n : ℕ) → n < header ws .nodes → node (problem ws) n ≡ read-node ws n
-  unfolding problem
-  node-of-words n l = getD-map-numbers (read-node ws) (header ws .nodes) n _ l
+  pub node-by : (n : ℕ) → n < o .nodes → node (problem-by o ws) n ≡ read-node o ws n
+  unfolding problem-by
+  node-by n l = getD-map-numbers (read-node o ws) (o .nodes) n _ l
+
+  -- Past the end.
+  pub latch-past : (i : ℕ) → o .latches ≤ i → latch (problem-by o ws) i ≡ record { next = 0; reset = 2 }
+  latch-past i l = List·getD-eq-default (problem-by o ws .latches) _ (rw latches-by l)
+
+  pub gate-past : (j : ℕ) → o .gates ≤ j → gate (problem-by o ws) j ≡ record { left = 0; right = 0 }
+  gate-past j l = List·getD-eq-default (problem-by o ws .gates) _ (rw gates-by l)
+
+  pub node-past : (n : ℕ) → o .nodes ≤ n → node (problem-by o ws) n ≡ atom 0
+  node-past n l = List·getD-eq-default (problem-by o ws .nodes) _ (rw nodes-by l)
 
 -- ════════ The problem of well-formed words is proper ════════
 
 -- Each op's shape, over words that are right, is a proper node.
-node-of-proper : (p : Problem) (h : Header) (n op a b : ℕ) → largest-literal h ≡ 2 * W p + 1 → op < length children
-    → FirstRight h n (children-of op) a → SecondRight n (children-of op) b → NodeProper p n (node-of op a b)
-node-of-proper p h n zero a b e l f s = rw e at f
-node-of-proper p h n (suc zero) a b e l f s = (f, s)
-node-of-proper p h n (suc (suc zero)) a b e l f s = (f, s)
-node-of-proper p h n (suc (suc (suc zero))) a b e l f s = f
-node-of-proper p h n (suc (suc (suc (suc zero)))) a b e l f s = (tt, f)
-node-of-proper p h n (suc (suc (suc (suc (suc zero))))) a b e l f s = (tt, f)
-node-of-proper p h n (suc (suc (suc (suc (suc (suc zero)))))) a b e l f s = (f, s)
-node-of-proper p h n (suc (suc (suc (suc (suc (suc (suc zero))))))) a b e l f s = (f, s)
-node-of-proper p h n (suc (suc (suc (suc (suc (suc (suc (suc op)))))))) a b e l f s = absurd (omega arith)
+node-of-proper : (p : Problem) (o : Outline) (n op a b : ℕ) → largest-literal o ≡ 2 * W p + 1 → op < length children
+    → FirstRight o n (children-of op) a → SecondRight n (children-of op) b → NodeProper p n (node-of op a b)
+node-of-proper p o n zero a b e l f s = rw e at f
+node-of-proper p o n (suc zero) a b e l f s = (f, s)
+node-of-proper p o n (suc (suc zero)) a b e l f s = (f, s)
+node-of-proper p o n (suc (suc (suc zero))) a b e l f s = f
+node-of-proper p o n (suc (suc (suc (suc zero)))) a b e l f s = (tt, f)
+node-of-proper p o n (suc (suc (suc (suc (suc zero))))) a b e l f s = (tt, f)
+node-of-proper p o n (suc (suc (suc (suc (suc (suc zero)))))) a b e l f s = (f, s)
+node-of-proper p o n (suc (suc (suc (suc (suc (suc (suc zero))))))) a b e l f s = (f, s)
+node-of-proper p o n (suc (suc (suc (suc (suc (suc (suc (suc op)))))))) a b e l f s = absurd (omega arith)
 
-pub proper-if-well-formed : (version : ℕ) (ws : List ℕ) → WellFormed version ws → Proper (problem ws)
+-- The width of the outline is the problem's.
+pub width-of-words : (version : ℕ) (ws : List ℕ) → W (problem version ws) ≡ outline version ws .width
+unfolding problem
+width-of-words version ws = W-by (outline version ws) ws
+
+pub proper-if-well-formed : (version : ℕ) (ws : List ℕ) → WellFormed version ws → Proper (problem version ws)
+unfolding problem
 proper-if-well-formed version ws w = record {
-  inputs-within = rw inputs-of-words (w .inputs-within);
-  latches-within = rw latches-of-words (w .latches-within);
-  gates-within = rw gates-of-words (w .gates-within);
-  nodes-some = rw nodes-of-words (w .nodes-some);
-  nodes-within = rw nodes-of-words (w .nodes-within);
-  bound-within = rw bound-of-words (w .bound-within);
-  next-in-range = λ i l. let m = is-latch i l in rw (latch-of-words ws i m, W-of-words) (w .latches-right i m .next-in-range);
-  reset-in-range = λ i l. let m = is-latch i l in rw (latch-of-words ws i m) (w .latches-right i m .reset-in-range);
-  left-below = λ j l. let m = is-gate j l in rw (gate-of-words ws j m, latches-of-words, inputs-of-words) (w .gates-right j m .left-below);
-  right-below = λ j l. let m = is-gate j l in rw (gate-of-words ws j m, latches-of-words, inputs-of-words) (w .gates-right j m .right-below);
+  inputs-within = rw inputs-by (within .inputs-within);
+  latches-within = rw latches-by (within .latches-within);
+  gates-within = rw gates-by (within .gates-within);
+  nodes-some = rw nodes-by (within .nodes-some);
+  nodes-within = rw nodes-by (within .nodes-within);
+  bound-within = rw bound-by (within .bound-within);
+  next-in-range = λ i l. let m = is-latch i l in rw (latch-by o ws i m, W-by) (w .latches-right i m .next-in-range);
+  reset-in-range = λ i l. let m = is-latch i l in rw (latch-by o ws i m) (w .latches-right i m .reset-in-range);
+  left-below = λ j l. let m = is-gate j l in rw (gate-by o ws j m, latches-by, inputs-by) (w .gates-right j m .left-below);
+  right-below = λ j l. let m = is-gate j l in rw (gate-by o ws j m, latches-by, inputs-by) (w .gates-right j m .right-below);
   nodes-proper = λ n l.
-      let m : n < header ws .nodes = rw nodes-of-words at l in
+      let m : n < o .nodes = rw nodes-by at l in
       let r = w .nodes-right n m in
-      rw (node-of-words ws n m)
-      (node-of-proper (problem ws) (header ws) n _ _ _ (rw W-of-words) (r .op-known) (r .first-word) (r .second-word));
+      rw (node-by o ws n m)
+      (node-of-proper (problem-by o ws) o n _ _ _ (rw W-by) (r .op-known) (r .first-word) (r .second-word));
 }
   where
-    is-latch : (i : ℕ) → i < length (problem ws .latches) → i < header ws .latches
-    is-latch i l = rw latches-of-words at l
+    o : Outline
+    o = outline version ws
 
-    is-gate : (j : ℕ) → j < length (problem ws .gates) → j < header ws .gates
-    is-gate j l = rw gates-of-words at l
+    within : InLimits o
+    within = w .in-limits
+
+    is-latch : (i : ℕ) → i < length (problem-by o ws .latches) → i < o .latches
+    is-latch i l = rw latches-by at l
+
+    is-gate : (j : ℕ) → j < length (problem-by o ws .gates) → j < o .gates
+    is-gate j l = rw gates-by at l

@@ -1,7 +1,7 @@
 -- The CNF's literals are of variables 1 to V, V stands in it, and V is within the limit. Assumes nothing.
 use mathlib.Core.Path.{_≡_, refl}
 use mathlib.Core.Bool.{Bool, true, false, cond}
-use mathlib.Core.List.{List, [], _∷_, _++_, map}
+use mathlib.Core.List.{List, [], _∷_, _++_, map, List·Memᴰ, List·Memᴰ·head, List·Memᴰ·tail}
 use Prim.Native.Nat.{ℕ, zero, suc, max, _+_, _*_, _-_, _/_, _≤_, _<_}
 use native.Mathlib.Nat.{zero-add, add-zero, add-suc, suc-add, add-mul, mul-add, mul-one, one-mul, mul-le-mul, mul-le-mul-right}
 use native.Mathlib.Omega.{arith}
@@ -9,7 +9,7 @@ use borrow.Author.Tests.{leb-true}
 use lib.IntN.{ℤ, pos}
 use lib.Dec.{leb}
 use lib.ListN.{length}
-use Rattle.clauses.specs.Lists.{numbers, each}
+use Rattle.clauses.specs.Lists.{numbers, each, joined}
 use Rattle.clauses.specs.Limits.{variables-limit}
 use Rattle.clauses.specs.Clauses.{Clause, variable-of, literal-within, Within}
 use Rattle.clauses.proofs.Satisfaction.{both-true, all-of-append, all-of-map, all-of-if-at, first-true, second-true, variable-of-negated}
@@ -17,9 +17,10 @@ use Rattle.meaning.specs.Limits.{inputs-limit, latches-limit, gates-limi
 use Rattle.meaning.specs.Problem.{Problem, Left, Node, W, latch-variable, gate-variable, latch, gate, node, constant, child, atom, both, either, next, until, release}
 use Rattle.meaning.specs.Check.{Proper, LeftProper, NodeProper}
 use Rattle.meaning.specs.Runs.{odd}
-use Rattle.meaning.specs.Cnf.{true-literal, false-literal, circuit-variable, literal-at, node-variables, selector, E, P, Q, Q-end, Q-at, left-at, variables, positions, latch-at, next-at, gate-clauses, gates-item, reset-unit, resets-item, steps-item, closing-clauses, closing-item, selectors-item, P-clauses, Q-clauses, E-clauses, node-clauses, nodes-item, cnf}
+use Rattle.meaning.specs.Cnf.{true-literal, false-literal, circuit-variable, literal-at, node-variables, selector, E, P, Q, Q-end, Q-at, left-at, variables, positions, latch-at, next-at, truth-item, gate-clauses, gates-item, reset-unit, resets-item, steps-item, closing-clauses, closing-item, selectors-item, P-clauses, Q-clauses, E-clauses, node-clauses, nodes-item, formula-item, cnf-items, cnf}
 use Rattle.meaning.specs.Counts.{largest-in, largest-variable}
 use Rattle.meaning.proofs.Numbers.{length-numbers, getD-numbers, all-of-each-number, all-of-each-below}
+use Rattle.meaning.proofs.ItemByItem.{_and_, within-by-items}
 use Rattle.meaning.proofs.Within.{clause-within, Fits, pos-fits, negated-fits, signed-fits, unit-within, two-fit, equal-form-within, or-form-within, and-form-within, until-form-within, release-form-within, selected-within, within-append}
 
 -- ════════ The bounds of each kind of variable ════════
@@ -97,6 +98,9 @@ module _ (p : Problem) (proper : Proper p) where
 
   next-fits : (t i : ℕ) → t ≤ p .bound → i < length (p .latches) → Fits (variables p) (next-at p t i)
   next-fits t i ht hi = literal-fits t (latch p i .next) ht (proper .next-in-range i hi)
+
+  truth-within : Within (variables p) truth-item
+  truth-within = unit-within true-fits
 
   gates-within : Within (variables p) (gates-item p)
   gates-within =
@@ -190,22 +194,25 @@ module _ (p : Problem) (proper : Proper p) where
         (both-true (both-true values-within ends-within)
         (both-true (both-true (negated-fits (E-fits n hn) .within) all-selectors-fit) refl))
 
-  nodes-item-within : Within (variables p) (nodes-item p)
-  nodes-item-within = all-of-each-below (clause-within (variables p)) (node-clauses p) (length (p .nodes)) node-within
+  nodes-within : Within (variables p) (nodes-item p)
+  nodes-within = all-of-each-below (clause-within (variables p)) (node-clauses p) (length (p .nodes)) node-within
+
+  formula-within : Within (variables p) (formula-item p)
+  formula-within = unit-within (P-fits (length (p .nodes) - 1) 0 (omega arith))
 
 pub literals-within : (p : Problem) → Proper p → Within (variables p) (cnf p)
-unfolding cnf
 literals-within p proper =
-    rw (all-of-append, all-of-append, all-of-append, all-of-append, all-of-append, all-of-append, all-of-append)
-    (both-true (both-true (both-true (both-true (both-true (both-true (both-true
-    (unit-within (true-fits p proper))
-    (gates-within p proper))
-    (resets-within p proper))
-    (steps-within p proper))
-    (closing-within p proper))
-    (selectors-within p proper))
-    (nodes-item-within p proper))
-    (unit-within (P-fits p proper (length (p .nodes) - 1) 0 (omega arith))))
+    within-by-items p (variables p) .1 (
+    truth-within p proper
+    and gates-within p proper
+    and resets-within p proper
+    and steps-within p proper
+    and closing-within p proper
+    and selectors-within p proper
+    and nodes-within p proper
+    and formula-within p proper
+    and tt
+    )
 
 -- ════════ The largest variable ════════
 
@@ -234,6 +241,10 @@ largest-each f i (suc n) (suc j) h =
     let later : largest-variable (f (suc i + j)) ≤ largest-variable (each (numbers (suc i) n) f) = largest-each f (suc i) n j (omega arith) in
     rw (add-suc, ← suc-add, largest-append) (omega arith)
 
+largest-among : {cs : List Clause} {items : List (List Clause)} → List·Memᴰ cs items → largest-variable cs ≤ largest-variable (joined items)
+largest-among (List·Memᴰ·head {x = ds} {xs = items} e) = rw (e, largest-append) (omega arith)
+largest-among (List·Memᴰ·tail {x = ds} {xs = items} m) = rw largest-append (omega (arith, largest-among m))
+
 -- E(n) stands in the last clause of node n.
 E-stands : (p : Problem) (n : ℕ) → variable-of (E p n) ≤ largest-variable (node-clauses p n)
 E-stands p n = rw (largest-append, variable-of-negated (E p n)) (omega arith)
@@ -241,13 +252,15 @@ E-stands p n = rw (largest-append, variable-of-negated (E p n)) (omega arith)
 E-stands-among : (p : Problem) (n : ℕ) → n < length (p .nodes) → variable-of (E p n) ≤ largest-variable (nodes-item p)
 E-stands-among p n h = omega (arith, E-stands p n, rw zero-add at (largest-each (node-clauses p) 0 (length (p .nodes)) n h))
 
+nodes-among : (p : Problem) → List·Memᴰ (nodes-item p) (cnf-items p)
+nodes-among p = search (List·Memᴰ·head, List·Memᴰ·tail) depth 12
+
 pub largest-is : (p : Problem) → Proper p → largest-variable (cnf p) ≡ variables p
 unfolding cnf variables
 largest-is p proper =
     let most : largest-variable (cnf p) ≤ variables p = largest-at-most (variables p) (cnf p) (literals-within p proper) in
     let last : variables p ≤ largest-variable (nodes-item p) = E-stands-among p (length (p .nodes) - 1) (omega arith) in
-    let least : variables p ≤ largest-variable (cnf p) = rw (largest-append, largest-append) (omega arith) in
-    omega arith
+    omega (arith, largest-among (nodes-among p))
 
 -- ════════ The limit ════════
 

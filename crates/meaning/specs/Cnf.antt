@@ -5,7 +5,7 @@ use Prim.Native.Nat.{ℕ, zero, suc, _+_, _*_, _-_, _/_}
 use lib.IntN.{ℤ, pos}
 use lib.Dec.{leb}
 use lib.ListN.{length}
-use Rattle.clauses.specs.Lists.{numbers, each}
+use Rattle.clauses.specs.Lists.{numbers, each, joined}
 use Rattle.clauses.specs.Clauses.{Clause, negated}
 use Rattle.clauses.specs.CnfWords.{words-of}
 use Rattle.meaning.specs.Problem.{Problem, Left, Node, W, latch-variable, gate-variable, latch, gate, node, constant, child, atom, both, either, next, until, release}
@@ -83,7 +83,11 @@ until-form x a b y =
 abbrev pub release-form : ℤ → ℤ → ℤ → ℤ → List Clause
 release-form x a b y = until-form (negated x) (negated a) (negated b) (negated y)
 
--- ════════ Items 2 to 6: the circuit and the selectors ════════
+-- ════════ Items 1 to 6: the circuit and the selectors ════════
+
+-- "1. (1)."
+abbrev pub truth-item : List Clause
+truth-item = (true-literal ∷ []) ∷ []
 
 abbrev pub positions : Problem → List ℕ
 positions p = numbers 0 (p .bound + 1)
@@ -134,7 +138,7 @@ selectors-item p =
     each (positions p) (λ l.
     each (numbers (l + 1) (p .bound - l)) (λ m. (negated (selector p l) ∷ negated (selector p m) ∷ []) ∷ []))
 
--- ════════ Item 7: the nodes ════════
+-- ════════ Items 7 and 8: the nodes ════════
 
 -- "F has constant true on the left of U, G constant false on the left of R."
 abbrev pub left-at : Problem → Left → ℕ → ℤ
@@ -195,19 +199,27 @@ node-clauses p n =
 abbrev pub nodes-item : Problem → List Clause
 nodes-item p = each (numbers 0 (length (p .nodes))) (node-clauses p)
 
+-- "8. (P(N-1,0))."
+abbrev pub formula-item : Problem → List Clause
+formula-item p = (P p (length (p .nodes) - 1) 0 ∷ []) ∷ []
+
 -- ════════ The whole ════════
 
--- "1. (1)." to "8. (P(N-1,0))."
+-- Items 1 to 8, in order.
+abbrev pub cnf-items : Problem → List (List Clause)
+cnf-items p =
+    truth-item
+    ∷ gates-item p
+    ∷ resets-item p
+    ∷ steps-item p
+    ∷ closing-item p
+    ∷ selectors-item p
+    ∷ nodes-item p
+    ∷ formula-item p
+    ∷ []
+
 unfoldable pub cnf : Problem → List Clause
-cnf p =
-    ((true-literal ∷ []) ∷ [])
-    ++ gates-item p
-    ++ resets-item p
-    ++ steps-item p
-    ++ closing-item p
-    ++ selectors-item p
-    ++ nodes-item p
-    ++ ((P p (length (p .nodes) - 1) 0 ∷ []) ∷ [])
+cnf p = joined (cnf-items p)
 
 -- "Signed 32-bit words, each clause ended by 0."
 unfoldable pub cnf-words : Problem → List ℤ

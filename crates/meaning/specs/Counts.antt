@@ -1,10 +1,10 @@
 -- The numbers of variables, clauses and words of a problem's CNF, in closed form. Assumes nothing.
 use mathlib.Core.Bool.{Bool, true, false}
 use mathlib.Core.List.{List, [], _∷_}
-use Prim.Native.Nat.{ℕ, max, _+_, _*_, _-_, _/_}
+use Prim.Native.Nat.{ℕ, suc, max, _+_, _*_, _-_, _/_}
 use lib.Dec.{ltb}
 use lib.ListN.{length}
-use Rattle.clauses.specs.Lists.{those}
+use Rattle.clauses.specs.Lists.{those, sum}
 use Rattle.clauses.specs.Clauses.{Clause, variable-of}
 use Rattle.meaning.specs.Problem.{Problem, Latch, Node, W, atom, both, either, next, until, release}
 
@@ -50,7 +50,7 @@ has-until-form (next a) = false
 has-until-form (until a b) = true
 has-until-form (release a b) = true
 
-pub record Sizes : Type 0 where
+pub record Tally : Type 0 where
   pub positions : ℕ
   pub width : ℕ
   pub latches : ℕ
@@ -60,8 +60,8 @@ pub record Sizes : Type 0 where
   pub ors : ℕ
   pub untils : ℕ
 
-abbrev pub sizes : Problem → Sizes
-sizes p = record {
+abbrev pub tally : Problem → Tally
+tally p = record {
   positions = p .bound + 1;
   width = W p;
   latches = length (p .latches);
@@ -78,44 +78,57 @@ sizes p = record {
 abbrev pub pairs : ℕ → ℕ
 pairs n = n * (n - 1) / 2
 
-abbrev pub node-count : Sizes → ℕ
-node-count s = s .equals + s .ors + s .untils
+abbrev pub node-count : Tally → ℕ
+node-count t = t .equals + t .ors + t .untils
 
 -- V: 1, then W variables and a selector for each position, then 2k + 3 for each node.
-abbrev pub variables-of : Sizes → ℕ
-variables-of s = 1 + s .positions * (s .width + 1) + node-count s * (2 * s .positions + 1)
+abbrev pub variables-of : Tally → ℕ
+variables-of t = 1 + t .positions * (t .width + 1) + node-count t * (2 * t .positions + 1)
 
--- Items 1 to 8; a node has its P and Q at each position (x=a has 2 clauses, "and" and "or" 3, Until and Release 4), then 2(k+1) + 1.
-abbrev pub clauses-in : Sizes → ℕ
-clauses-in s =
-    1
-    + s .positions * (3 * s .gates)
-    + s .fixed
-    + (s .positions - 1) * (2 * s .latches)
-    + s .positions * (2 * s .latches)
-    + pairs (s .positions)
-    + s .positions * (4 * s .equals + 5 * s .ors + 8 * s .untils)
-    + node-count s * (2 * s .positions + 1)
-    + 1
+-- A form weighs what its clauses weigh, and a clause of n literals w n: x=a; "and" and "or"; Until and Release; the two clauses of a selector.
+abbrev pub equal-weight : (ℕ → ℕ) → ℕ
+equal-weight w = 2 * w 2
 
--- The same clauses with a 0 for each: x=a has 6 words, "and" and "or" 10, Until and Release 15.
-abbrev pub words-in : Sizes → ℕ
-words-in s =
-    2
-    + s .positions * (10 * s .gates)
-    + 2 * s .fixed
-    + (s .positions - 1) * (6 * s .latches)
-    + s .positions * (8 * s .latches)
-    + 3 * pairs (s .positions)
-    + s .positions * (12 * s .equals + 16 * s .ors + 30 * s .untils)
-    + node-count s * (9 * s .positions + 2)
-    + 2
+abbrev pub or-weight : (ℕ → ℕ) → ℕ
+or-weight w = 2 * w 2 + w 3
+
+abbrev pub until-weight : (ℕ → ℕ) → ℕ
+until-weight w = w 2 + 3 * w 3
+
+abbrev pub selected-weight : (ℕ → ℕ) → ℕ
+selected-weight w = 2 * w 3
+
+-- A node's P and Q at one position, over all nodes: ops 0 to 3 have Q=P.
+abbrev pub values-weight : (ℕ → ℕ) → Tally → ℕ
+values-weight w t =
+    t .equals * (equal-weight w + equal-weight w)
+    + t .ors * (or-weight w + equal-weight w)
+    + t .untils * (until-weight w + until-weight w)
+
+-- A node's E: two clauses for each position, and (-E s(0)..s(k)).
+abbrev pub end-weight : (ℕ → ℕ) → Tally → ℕ
+end-weight w t = t .positions * selected-weight w + w (suc (t .positions))
+
+-- What items 1 to 8 weigh, in order.
+abbrev pub item-totals : (ℕ → ℕ) → Tally → List ℕ
+item-totals w t =
+    w 1
+    ∷ t .positions * (t .gates * or-weight w)
+    ∷ t .fixed * w 1
+    ∷ (t .positions - 1) * (t .latches * equal-weight w)
+    ∷ t .positions * (t .latches * selected-weight w)
+    ∷ pairs (t .positions) * w 2
+    ∷ (t .positions * values-weight w t + node-count t * end-weight w t)
+    ∷ w 1
+    ∷ []
 
 unfoldable pub variable-count : Problem → ℕ
-variable-count p = variables-of (sizes p)
+variable-count p = variables-of (tally p)
 
+-- Each clause is one.
 unfoldable pub clause-count : Problem → ℕ
-clause-count p = clauses-in (sizes p)
+clause-count p = sum (item-totals (λ n. 1) (tally p))
 
+-- A clause of n literals is n + 1 words.
 unfoldable pub word-count : Problem → ℕ
-word-count p = words-in (sizes p)
+word-count p = sum (item-totals suc (tally p))

@@ -12,8 +12,7 @@ use Rattle.clauses.specs.Answers.{Answer, Check, check, first-failing}
 use Rattle.clauses.specs.Clauses.{Clause}
 use Rattle.meaning.specs.Limits.{job-limit, program-room}
 use Rattle.meaning.specs.Answers.{bad-job}
-use Rattle.meaning.specs.Problem.{problem}
-use Rattle.meaning.specs.Check.{known-version}
+use Rattle.meaning.specs.Problem.{Problem, header-words, problem}
 use Rattle.meaning.specs.Cnf.{cnf, variables}
 use Rattle.meaning.specs.Calls.{write-cnf}
 
@@ -46,7 +45,7 @@ unfoldable pub job-checks : List ℕ → List Check
 job-checks bs =
     check (leb (length bs) job-limit) (bad-job job-limit)
     ∷ check (leb job-header (length bs)) (bad-job (length bs))
-    ∷ check (eqb (job-version bs) known-version) (bad-job 0)
+    ∷ check (ltb 0 (header-words (job-version bs))) (bad-job 0)
     ∷ check (eqb (job-length bs) (length bs - job-header) && eqb (job-length bs % 4) 0) (bad-job 1)
     ∷ []
 
@@ -101,10 +100,14 @@ refusal-line a = bytes-of "refused " ++ decimal (a .number) ++ bytes-of " at " +
 unfoldable pub job-answer : List ℕ → Answer
 job-answer bs = job-checked bs (write-cnf (job-version bs) (job-words bs) program-room)
 
+-- The problem of a job.
+abbrev pub job-problem : List ℕ → Problem
+job-problem bs = problem (job-version bs) (job-words bs)
+
 -- What the program prints for its standard input.
 unfoldable pub printed : List ℕ → List ℕ
 printed bs =
     elim (eqb (job-answer bs .number) 0) [
-      | true ↦ cnf-text (variables (problem (job-words bs))) (cnf (problem (job-words bs)))
+      | true ↦ cnf-text (variables (job-problem bs)) (cnf (job-problem bs))
       | false ↦ refusal-line (job-answer bs)
     ]

@@ -1,7 +1,8 @@
 -- Document 01, "The problem": a record of lists, read off its words. Assumes nothing.
-use mathlib.Core.Bool.{Bool, true, false}
+use mathlib.Core.Bool.{Bool, true, false, cond}
 use mathlib.Core.List.{List, [], _∷_, map}
 use Prim.Native.Nat.{ℕ, _+_, _*_}
+use lib.Dec.{eqb}
 use lib.ListN.{length, getD}
 use Rattle.clauses.specs.Lists.{numbers}
 
@@ -61,42 +62,64 @@ node p n = getD (p .nodes) n (atom 0)
 
 -- ════════ The words ════════
 
+-- The versions, each with its number and the words of its header; one not known has none.
+pub record Version : Type 0 where
+  pub number : ℕ
+  pub header : ℕ
+
 -- "A lent slice of 32-bit words: I, L, A, N, k; then .."
-pub record Header : Type 0 where
+abbrev pub versions : List Version
+versions = record { number = 1; header = 5 } ∷ []
+
+abbrev pub header-among : List Version → ℕ → ℕ
+header-among [] version = 0
+header-among (v ∷ vs) version = cond (eqb version (v .number)) (v .header) (header-among vs version)
+
+unfoldable pub header-words : ℕ → ℕ
+header-words version = header-among versions version
+
+abbrev pub word : List ℕ → ℕ → ℕ
+word ws i = getD ws i 0
+
+-- The sizes of a problem, its W, and where each of its parts begins in its words.
+pub record Outline : Type 0 where
   pub inputs : ℕ
   pub latches : ℕ
   pub gates : ℕ
   pub nodes : ℕ
   pub bound : ℕ
+  pub width : ℕ
+  pub latches-from : ℕ
+  pub gates-from : ℕ
+  pub nodes-from : ℕ
 
-abbrev pub word : List ℕ → ℕ → ℕ
-word ws i = getD ws i 0
-
-abbrev pub header : List ℕ → Header
-header ws = record {
+-- ".. then L pairs (next literal, reset); A pairs (left, right literal); N triples (op, a, b)"
+abbrev pub outline : ℕ → List ℕ → Outline
+outline version ws = record {
   inputs = word ws 0;
   latches = word ws 1;
   gates = word ws 2;
   nodes = word ws 3;
   bound = word ws 4;
+  width = word ws 0 + word ws 1 + word ws 2;
+  latches-from = header-words version;
+  gates-from = header-words version + 2 * word ws 1;
+  nodes-from = header-words version + 2 * word ws 1 + 2 * word ws 2;
 }
 
-abbrev pub header-words : ℕ
-header-words = 5
+-- Where the words of a latch, a gate, a node begin.
+abbrev pub latch-place : Outline → ℕ → ℕ
+latch-place o i = o .latches-from + 2 * i
 
--- ".. then L pairs (next literal, reset); A pairs (left, right literal); N triples (op, a, b)": where each begins.
-abbrev pub latch-place : Header → ℕ → ℕ
-latch-place h i = header-words + 2 * i
+abbrev pub gate-place : Outline → ℕ → ℕ
+gate-place o j = o .gates-from + 2 * j
 
-abbrev pub gate-place : Header → ℕ → ℕ
-gate-place h j = header-words + 2 * h .latches + 2 * j
-
-abbrev pub node-place : Header → ℕ → ℕ
-node-place h n = header-words + 2 * h .latches + 2 * h .gates + 3 * n
+abbrev pub node-place : Outline → ℕ → ℕ
+node-place o n = o .nodes-from + 3 * n
 
 -- "5+2L+2A+3N"
-abbrev pub words-in-all : Header → ℕ
-words-in-all h = node-place h (h .nodes)
+abbrev pub words-in-all : Outline → ℕ
+words-in-all o = node-place o (o .nodes)
 
 -- "How many children each op has stands in one fixed table."
 abbrev pub children : List ℕ
@@ -118,25 +141,26 @@ shapes =
 abbrev pub node-of : ℕ → ℕ → ℕ → Node
 node-of op a b = getD shapes op (λ a b. atom 0) a b
 
-abbrev pub read-latch : List ℕ → ℕ → Latch
-read-latch ws i = record { next = word ws (latch-place (header ws) i); reset = word ws (latch-place (header ws) i + 1) }
+abbrev pub read-latch : Outline → List ℕ → ℕ → Latch
+read-latch o ws i = record { next = word ws (latch-place o i); reset = word ws (latch-place o i + 1) }
 
-abbrev pub read-gate : List ℕ → ℕ → Gate
-read-gate ws j = record { left = word ws (gate-place (header ws) j); right = word ws (gate-place (header ws) j + 1) }
+abbrev pub read-gate : Outline → List ℕ → ℕ → Gate
+read-gate o ws j = record { left = word ws (gate-place o j); right = word ws (gate-place o j + 1) }
 
-abbrev pub read-node : List ℕ → ℕ → Node
-read-node ws n =
-    node-of
-    (word ws (node-place (header ws) n))
-    (word ws (node-place (header ws) n + 1))
-    (word ws (node-place (header ws) n + 2))
+abbrev pub read-node : Outline → List ℕ → ℕ → Node
+read-node o ws n =
+    node-of (word ws (node-place o n)) (word ws (node-place o n + 1)) (word ws (node-place o n + 2))
 
--- The problem of the words.
-unfoldable pub problem : List ℕ → Problem
-problem ws = record {
-  inputs = header ws .inputs;
-  latches = map (read-latch ws) (numbers 0 (header ws .latches));
-  gates = map (read-gate ws) (numbers 0 (header ws .gates));
-  nodes = map (read-node ws) (numbers 0 (header ws .nodes));
-  bound = header ws .bound;
+-- The problem that an outline shows in words.
+unfoldable pub problem-by : Outline → List ℕ → Problem
+problem-by o ws = record {
+  inputs = o .inputs;
+  latches = map (read-latch o ws) (numbers 0 (o .latches));
+  gates = map (read-gate o ws) (numbers 0 (o .gates));
+  nodes = map (read-node o ws) (numbers 0 (o .nodes));
+  bound = o .bound;
 }
+
+-- The problem of a version and words.
+unfoldable pub problem : ℕ → List ℕ → Problem
+problem version ws = problem-by (outline version ws) ws

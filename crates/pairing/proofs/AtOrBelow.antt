@@ -13,8 +13,9 @@ use Rattle.clauses.proofs.Complete.{refutable}
 use Rattle.meaning.specs.Problem.{Problem, problem}
 use Rattle.meaning.specs.Check.{WellFormed, Proper}
 use Rattle.meaning.specs.Witnesses.{Witness}
+use Rattle.clauses.specs.Refutations.{judge-clauses}
 use Rattle.meaning.specs.Cnf.{cnf, variables}
-use Rattle.meaning.specs.Calls.{room-check, room-checked, judge-of-cnf, judge-refutation}
+use Rattle.meaning.specs.Calls.{room-check, room-checked, before-steps, judge-refutation}
 use Rattle.meaning.proofs.Check.{checked-if-well-formed, well-formed-if-checked, proper-if-well-formed}
 use Rattle.meaning.proofs.Ranges.{literals-within}
 use Rattle.pairing.specs.Bounds.{at-bound}
@@ -49,20 +50,19 @@ module _ (version : ℕ) (ws : List ℕ) (refutation : List ℤ) (room m n : ℕ
   formed-if-refuted = well-formed-if-checked version ws _ (number-of yes-said)
 
   -- The checks of the problem and of the room pass, so the answer is that to the CNF's refutation.
-  cnf-refuted : judge-of-cnf (problem ws) refutation m n ≡ granted 0
-  unfolding judge-refutation room-checked
+  cnf-refuted : judge-clauses (variables (problem version ws)) (cnf (problem version ws)) refutation m n ≡ granted 0
+  unfolding judge-refutation before-steps room-checked judge-clauses
   cnf-refuted =
-      after-if-granted (room-check (problem ws) room ∷ []) (judge-of-cnf (problem ws) refutation m n) refl
+      after-if-granted (room-check (problem version ws) room ∷ []) (judge-clauses (variables (problem version ws)) (cnf (problem version ws)) refutation m n) refl
       (sym (checked-if-well-formed version ws _ formed-if-refuted) ∙ yes-said)
 
-  unsatisfied : (a : Assignment) → Model (problem ws) a → ⊥
-  unfolding judge-of-cnf
-  unsatisfied a model = refuted-clauses (variables (problem ws)) (cnf (problem ws)) refutation m n cnf-refuted a (model .satisfies)
+  unsatisfied : (a : Assignment) → Model (problem version ws) a → ⊥
+  unsatisfied a model = refuted-clauses (variables (problem version ws)) (cnf (problem version ws)) refutation m n cnf-refuted a (model .satisfies)
 
   -- A refutation that is accepted leaves no witness at or below the bound.
-  pub problem-refuted : (j : ℕ) → j ≤ problem ws .bound → (bs : List ℕ) → Witness (at-bound (problem ws) j) bs → ⊥
+  pub problem-refuted : (j : ℕ) → j ≤ problem version ws .bound → (bs : List ℕ) → Witness (at-bound (problem version ws) j) bs → ⊥
   problem-refuted j h bs w =
-      let model = satisfiable-at-or-below (problem ws) (proper-if-well-formed version ws formed-if-refuted) .1
+      let model = satisfiable-at-or-below (problem version ws) (proper-if-well-formed version ws formed-if-refuted) .1
       (record { at = j; bytes = bs; within = h; witness = w }) in
       unsatisfied (model .0) (model .1)
 

@@ -17,8 +17,8 @@ use Rattle.meaning.specs.Witnesses.{witness-length, byte, shape-of, shape, bits
 use Rattle.meaning.specs.Cnf.{positions}
 use Rattle.meaning.proofs.Numbers.{length-map-numbers, getD-map-numbers, all-of-each}
 use Rattle.pairing.specs.ModelLaws.{Reading}
-use Rattle.pairing.proofs.Loops.{shifted}
-use Rattle.pairing.proofs.Blocks.{length-each, cut, cut-each, cut-end}
+use Rattle.pairing.proofs.UntilOnLassos.{shifted}
+use Rattle.pairing.proofs.BlocksOfOneLength.{length-each, cut, cut-each, cut-end}
 use Rattle.pairing.specs.Bytes.{first-chosen, chosen-of, bit-byte, latch-bytes, input-bytes, bytes-of-reading}
 
 -- ════════ Lists of the same length, one after another ════════

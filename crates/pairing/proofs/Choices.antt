@@ -20,7 +20,7 @@ use Rattle.pairing.specs.ModelLaws.{Reading}
 use Rattle.pairing.specs.Bytes.{chosen-of, bytes-of-reading}
 use Rattle.pairing.proofs.NodeValues.{StartWithin}
 use Rattle.pairing.proofs.Bytes.{bytes-prefix, bytes-lasso}
-use Rattle.pairing.proofs.Loops.{first-or-none}
+use Rattle.pairing.proofs.UntilOnLassos.{first-or-none}
 
 -- From 0 to k what is chosen is what the shape chooses.
 abbrev pub Chooses : Problem → (ℕ → Bool) → Shape → Type 0

@@ -11,7 +11,7 @@ use Rattle.meaning.specs.Runs.{Position, values, next-values, StartsRight, Endl
 use Rattle.meaning.specs.Formulas.{formula, Holds}
 use Rattle.meaning.specs.Bounded.{prefix, lasso, after, looped}
 use Rattle.meaning.specs.Witnesses.{witness-length, byte, shape, first-latches, inputs-at, position, rows, Closes, lasso-path, Shows, Witness, judge-bytes}
-use Rattle.pairing.proofs.Loops.{after-cases, looped-within}
+use Rattle.pairing.proofs.UntilOnLassos.{after-cases, looped-within}
 use Rattle.pairing.proofs.Meaning.{prefix-value-true}
 use Rattle.pairing.proofs.Runs.{position-first, position-inputs, position-next, length-first-latches, length-inputs-at}
 use Rattle.pairing.proofs.Witnesses.{accepted-is-witness}

@@ -13,15 +13,15 @@ use Rattle.meaning.proofs.Check.{checked-if-well-formed, well-formed-if-checked
 use Rattle.pairing.proofs.Witnesses.{accepted-is-witness}
 
 module _ (version : ℕ) (ws bs : List ℕ) where
-  judged-forth : judge-witness version ws bs ≡ granted 0 → WellFormed version ws × Witness (problem ws) bs
+  judged-forth : judge-witness version ws bs ≡ granted 0 → WellFormed version ws × Witness (problem version ws) bs
   unfolding judge-witness
   judged-forth e =
-      let formed = well-formed-if-checked version ws (judge-bytes (problem ws) bs) (number-of e) in
-      (formed, accepted-is-witness (problem ws) bs .0 (sym (checked-if-well-formed version ws (judge-bytes (problem ws) bs) formed) ∙ e))
+      let formed = well-formed-if-checked version ws (judge-bytes (problem version ws) bs) (number-of e) in
+      (formed, accepted-is-witness (problem version ws) bs .0 (sym (checked-if-well-formed version ws (judge-bytes (problem version ws) bs) formed) ∙ e))
 
-  judged-back : WellFormed version ws × Witness (problem ws) bs → judge-witness version ws bs ≡ granted 0
+  judged-back : WellFormed version ws × Witness (problem version ws) bs → judge-witness version ws bs ≡ granted 0
   unfolding judge-witness
-  judged-back w = checked-if-well-formed version ws (judge-bytes (problem ws) bs) (w .0) ∙ accepted-is-witness (problem ws) bs .1 (w .1)
+  judged-back w = checked-if-well-formed version ws (judge-bytes (problem version ws) bs) (w .0) ∙ accepted-is-witness (problem version ws) bs .1 (w .1)
 
-  pub judged-is-witness : (judge-witness version ws bs ≡ granted 0) ↔ (WellFormed version ws × Witness (problem ws) bs)
+  pub judged-is-witness : (judge-witness version ws bs ≡ granted 0) ↔ (WellFormed version ws × Witness (problem version ws) bs)
   judged-is-witness = (judged-forth, judged-back)

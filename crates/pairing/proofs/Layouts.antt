@@ -17,7 +17,7 @@ use Rattle.meaning.proofs.Numbers.{length-map-numbers, getD-map-numbers, getD-m
 use Rattle.meaning.proofs.Counts.{last-of}
 use Rattle.pairing.specs.ModelLaws.{Reading, reading}
 use Rattle.pairing.specs.Layout.{circuit-values, chosen-values, node-values, layout, Agree}
-use Rattle.pairing.proofs.Blocks.{getD-first, getD-second, length-each, getD-each, map-numbers-same, each-numbers-same, cut, cut-one, cut-end, cut-cut, cut-map, cut-each}
+use Rattle.pairing.proofs.BlocksOfOneLength.{getD-first, getD-second, length-each, getD-each, map-numbers-same, each-numbers-same, cut, cut-one, cut-end, cut-cut, cut-map, cut-each}
 
 -- ════════ Counts ════════
 

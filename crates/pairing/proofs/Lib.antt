@@ -1,5 +1,5 @@
 -- The theorems that join models, witnesses and endless runs.
-pub mod Loops
+pub mod UntilOnLassos
 pub mod Meaning
 pub mod Runs
 pub mod Witnesses
@@ -12,10 +12,10 @@ pub mod NodeValues
 pub mod SameNodes
 pub mod Forms
 pub mod Readings
-pub mod Items
+pub mod ItemsAsLaws
 pub mod NodeItem
 pub mod Satisfied
-pub mod Blocks
+pub mod BlocksOfOneLength
 pub mod Layouts
 pub mod Gates
 pub mod Bytes
@@ -25,5 +25,5 @@ pub mod WitnessReading
 pub mod PairsOff
 pub mod Longer
 pub mod AtOrBelow
-pub mod Listed
+pub mod ListedWitnesses
 pub mod Thirteen

@@ -19,7 +19,7 @@ use Rattle.meaning.specs.Formulas.{Formula, atom, both, either, next, until, re
 use Rattle.meaning.specs.Bounded.{prefix, looped, until-over, release-over, bounded-value}
 use Rattle.meaning.specs.Witnesses.{witness-length, byte, shape-of, bits, first-latches, inputs-at, position, rows, Closes, lasso-path, Shows, Witness}
 use Rattle.pairing.specs.Bounds.{at-bound}
-use Rattle.pairing.proofs.Loops.{after-cases, looped-within}
+use Rattle.pairing.proofs.UntilOnLassos.{after-cases, looped-within}
 use Rattle.pairing.proofs.Meaning.{longer-prefix}
 use Rattle.pairing.proofs.Endless.{same-position}
 use Rattle.pairing.proofs.Runs.{position-first, position-inputs, position-next}

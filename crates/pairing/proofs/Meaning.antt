@@ -12,7 +12,7 @@ use lib.Dec.{ltb}
 use Rattle.clauses.proofs.Satisfaction.{both-true, first-true, second-true, one-true, or-first, or-second}
 use Rattle.meaning.specs.Formulas.{Formula, True, atom, both, either, next, until, release}
 use Rattle.meaning.specs.Bounded.{prefix, lasso, looped, bounded-value}
-use Rattle.pairing.proofs.Loops.{Until, until-found, until-if-found, release-as-until, until-round, until-if-round, release-round, release-if-round}
+use Rattle.pairing.proofs.UntilOnLassos.{Until, until-found, until-if-found, release-as-until, until-round, until-if-round, release-round, release-if-round}
 
 -- ════════ A lasso ════════
 

@@ -14,7 +14,7 @@ use Rattle.pairing.specs.NodeLaws.{at-next, op-value, Q-value}
 use Rattle.pairing.specs.ModelLaws.{Reading, reading, row}
 use Rattle.pairing.proofs.Forms.{equal-form-is, and-form-is, or-form-is, until-form-is, release-form-is, equal-where-is, some-where-is}
 use Rattle.pairing.proofs.Readings.{literal-at-reads, selector-reads, P-reads, P-next-reads, Q-reads, Q-next-reads, E-reads, true-reads, false-reads, left-reads}
-use Rattle.pairing.proofs.Items.{append-is, each-below-is, each-up-to-is}
+use Rattle.pairing.proofs.ItemsAsLaws.{append-is, each-below-is, each-up-to-is}
 
 -- ════════ The laws of one node ════════
 

@@ -20,7 +20,7 @@ use Rattle.pairing.specs.NodeLaws.{NodeLaws, left-value, at-next, op-val
 use Rattle.pairing.proofs.Trees.{tree, tree-unfolds}
 use Rattle.pairing.proofs.NextValues.{at-next-inside, at-next-last, at-next-same, same-going-down, until-to-last, release-to-last}
 use Rattle.pairing.proofs.Unrolled.{until-unrolled, until-once-round, release-unrolled, release-once-round}
-use Rattle.pairing.proofs.Loops.{after-last, after-inside}
+use Rattle.pairing.proofs.UntilOnLassos.{after-last, after-inside}
 use Rattle.pairing.proofs.Gates.{with-gates-before}
 
 -- The loop starts at 0 to k.

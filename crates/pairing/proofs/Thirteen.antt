@@ -7,7 +7,7 @@ use Rattle.meaning.specs.Problem.{Problem, problem}
 use Rattle.meaning.specs.Witnesses.{witnesses}
 use Rattle.meaning.specs.Cases.{Case, thirteen-cases, thirteen-counts}
 use Rattle.pairing.specs.Bounds.{Counted}
-use Rattle.pairing.proofs.Listed.{listed-is-witness, listed-once}
+use Rattle.pairing.proofs.ListedWitnesses.{listed-is-witness, listed-once}
 
 -- The list of witnesses counts them.
 pub counted : (p : Problem) → Counted p (length (witnesses p))
@@ -24,8 +24,8 @@ same-at-member f g (List·Memᴰ·head p) e = ap f p ∙ ap (λ ns. getD ns 0 0)
 same-at-member f g (List·Memᴰ·tail m) e = same-at-member f g m (ap (drop 1) e)
 
 -- Each of the thirteen problems has exactly the witnesses of a list, each once, and as many as its case says.
-pub thirteen : (c : Case) → List·Memᴰ c thirteen-cases → Counted (problem (c .words)) (c .count)
-thirteen c m = rw (← as-many) (counted (problem (c .words)))
+pub thirteen : (c : Case) → List·Memᴰ c thirteen-cases → Counted (problem 1 (c .words)) (c .count)
+thirteen c m = rw (← as-many) (counted (problem 1 (c .words)))
   where
-    as-many : length (witnesses (problem (c .words))) ≡ c .count
-    as-many = same-at-member (λ (d : Case). length (witnesses (problem (d .words)))) (λ (d : Case). d .count) m thirteen-counts
+    as-many : length (witnesses (problem 1 (c .words))) ≡ c .count
+    as-many = same-at-member (λ (d : Case). length (witnesses (problem 1 (d .words)))) (λ (d : Case). d .count) m thirteen-counts

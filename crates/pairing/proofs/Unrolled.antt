@@ -11,7 +11,7 @@ use Rattle.clauses.specs.Lists.{numbers}
 use Rattle.clauses.proofs.Satisfaction.{one-true, second-true}
 use Rattle.meaning.specs.Bounded.{after, onward, until-over, release-over}
 use Rattle.meaning.proofs.Numbers.{numbers-append, member-of-numbers, numbers-bounds}
-use Rattle.pairing.proofs.Loops.{release-dual, after-last, after-inside}
+use Rattle.pairing.proofs.UntilOnLassos.{release-dual, after-last, after-inside}
 
 -- ════════ Positions already passed add nothing ════════
 

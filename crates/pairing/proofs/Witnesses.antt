@@ -21,7 +21,7 @@ use Rattle.meaning.specs.Formulas.{formula}
 use Rattle.meaning.specs.Bounded.{Shape, prefix, lasso, bounded-value}
 use Rattle.meaning.specs.Witnesses.{witness-length, byte, shape, first-latches, position, rows, Closes, Shows, Witness, byte-limit, byte-checks, reset-checks, loop-checks, formula-check, judge-formula, judge-run, judge-bytes}
 use Rattle.meaning.proofs.Numbers.{all-of-numbers, all-of-numbers-if}
-use Rattle.pairing.proofs.Loops.{shifted}
+use Rattle.pairing.proofs.UntilOnLassos.{shifted}
 use Rattle.pairing.proofs.Meaning.{lasso-value}
 use Rattle.pairing.proofs.Runs.{length-next-values, length-latches}
 use Rattle.pairing.proofs.NodeValues.{StartWithin, start-within}
@@ -29,7 +29,7 @@ use Rattle.pairing.proofs.Forms.{beq-is}
 
 -- ════════ The order of the judge's checks ════════
 
-record Passed (p : Problem) (bs : List ℕ) : Type 0 where
+record ChecksPassed (p : Problem) (bs : List ℕ) : Type 0 where
   bytes-pass : all-of passing (byte-checks p bs) ≡ true
   resets-pass : all-of passing (reset-checks p bs) ≡ true
   loop-passes : all-of passing (loop-checks p bs (shape bs)) ≡ true
@@ -55,7 +55,7 @@ module _ (p : Problem) (bs : List ℕ) where
       all-of-append refusing (reset-checks p bs) (loop-checks p bs (shape bs))
       ∙ both-true reset-checks-refusing (loop-checks-refusing (shape bs))
 
-  passed-if-granted : judge-bytes p bs ≡ granted 0 → Passed p bs
+  passed-if-granted : judge-bytes p bs ≡ granted 0 → ChecksPassed p bs
   unfolding judge-bytes judge-run judge-formula
   passed-if-granted e =
       let run-granted = after-if-granted (byte-checks p bs) (judge-run p bs) byte-checks-refusing e in
@@ -68,7 +68,7 @@ module _ (p : Problem) (bs : List ℕ) where
         formula-passes = first-true _ true (all-pass-if-granted (formula-check p bs ∷ []) (granted 0) refl formula-granted);
       }
 
-  granted-if-passed : Passed p bs → judge-bytes p bs ≡ granted 0
+  granted-if-passed : ChecksPassed p bs → judge-bytes p bs ≡ granted 0
   unfolding judge-bytes judge-run judge-formula
   granted-if-passed q =
       first-failing-passed (byte-checks p bs) (judge-run p bs) (q .bytes-pass)
@@ -166,7 +166,7 @@ module _ (p : Problem) (bs : List ℕ) where
 -- ════════ Accepted bytes are witnesses ════════
 
 module _ (p : Problem) (bs : List ℕ) where
-  witness-if-passed : Passed p bs → Witness p bs
+  witness-if-passed : ChecksPassed p bs → Witness p bs
   witness-if-passed q =
       let right = length-if-passes p bs (q .bytes-pass) in
       let limits = bytes-if-pass p bs (q .bytes-pass) in
@@ -183,7 +183,7 @@ module _ (p : Problem) (bs : List ℕ) where
       bits limits zero h q = absurd (not-suc-le-zero h)
       bits limits (suc i) h q = limits (suc i) q
 
-  passed-if-witness : Witness p bs → Passed p bs
+  passed-if-witness : Witness p bs → ChecksPassed p bs
   passed-if-witness w = record {
     bytes-pass = pass-if-bytes p bs (w .length-right) limits;
     resets-pass = passes-if-starts p bs (w .starts-right);

@@ -1,4 +1,4 @@
--- Laws of what the parts of the check answer, one after another and in a loop over numbers. Assumes nothing.
+-- Laws of what the parts of the check answer: checks one after another, parts one after another, and a loop over numbers. Assumes nothing.
 use mathlib.Core.Path.{_≡_, refl, sym, _∙_}
 use mathlib.Core.Bool.{Bool, true, false}
 use mathlib.Core.List.{List, [], _∷_, _++_}
@@ -6,104 +6,85 @@ use Prim.Native.Nat.{ℕ, suc, _+_, _-_, _≤_, _<_}
 use native.Mathlib.Numerals.{add-one}
 use native.Mathlib.Omega.{arith}
 use denote.Enum.Declared.{tagOf}
-use Rattle.clauses.specs.Lists.{numbers, each, all-of}
-use Rattle.clauses.specs.Answers.{Answer, Check, check, first-failing, granted}
-use Rattle.clauses.proofs.Satisfaction.{false-if-not-true}
-use Rattle.clauses.proofs.Answers.{passing, refusing, first-failing-append, first-failing-passed, all-pass-if-granted, number-of}
-use Rattle.meaning.proofs.Check.{first-failing-refused}
-use Rattle.problem.specs.declared.Sizes.{Sizes}
-use Rattle.problem.specs.declared.Checked.{Checked}
-use Rattle.problem.specs.declared.Checked.the-variants.{Good, Refused}
-use Rattle.problem.specs.Promise.{answer-of, sizes-of, Sized, AnsweredBy}
-use Rattle.problem.proofs.Checked.{the-type}
-use Rattle.problem.proofs.Unique.{refusal-not-yes}
+use Rattle.clauses.specs.Lists.{numbers, each}
+use Rattle.clauses.specs.Answers.{Answer, Check, check, first-failing}
+use Rattle.clauses.proofs.Answers.{first-failing-append}
+use Rattle.meaning.specs.Check.{each-below, first-failing-part}
+use Rattle.problem.specs.declared.Refusal.{Refusal}
+use Rattle.problem.specs.declared.check.PartAnswer.{PartAnswer}
+use Rattle.problem.specs.declared.check.PartAnswer.the-variants.{Passed, Refused}
+use Rattle.problem.specs.Promise.{refusal-answer}
+use Rattle.problem.specs.CheckParts.{answer-then, Answers}
+use Rattle.problem.proofs.check.PartAnswer.{the-type}
 
--- ════════ A yes or a refusal ════════
+-- The code goes by the number of the variant: 0 is a pass.
+pub is-passed : (r : PartAnswer) → tagOf the-type r ≡ 0 → r ≡ Passed
+is-passed Passed e = refl
+is-passed (Refused f) e = absurd (omega arith)
 
-abbrev pub Granted : Checked → Type 0
-Granted r = answer-of r ≡ granted 0
-
-abbrev pub Refuses : Checked → Type 0
-Refuses r = answer-of r .number ≡ 0 → ⊥
-
--- The code goes by the number of the variant: 0 is the yes, 1 a refusal.
-pub granted-if-first : (r : Checked) → tagOf the-type r ≡ 0 → Granted r
-granted-if-first (Good s) e = refl
-granted-if-first (Refused f) e = absurd (omega arith)
-
-pub refuses-if-second : (r : Checked) → tagOf the-type r ≡ 1 → Refuses r
-refuses-if-second (Good s) e = absurd (omega arith)
-refuses-if-second (Refused f) e = refusal-not-yes f
+-- What answers for some parts also does under another name.
+pub answers-by : {ps : List (List Check)} {r r′ : PartAnswer} → r ≡ r′ → Answers ps r → Answers ps r′
+answers-by e a = rw e at a
 
 -- ════════ One check after another ════════
 
-module _ {a : Answer} {cs : List Check} {ws : List ℕ} {r : Checked} where
-  pub pass : {b : Bool} → b ≡ true → AnsweredBy cs ws r → AnsweredBy (check b a ∷ cs) ws r
-  pass e rest = record { answered = rest .answered ∙ rw e; sized = rest .sized }
+-- Of a part whose checks are these, the first passes: the others are left.
+module _ {a : Answer} {cs : List Check} {b : Bool} where
+  pub pass : {r : PartAnswer} → b ≡ true → Answers (cs ∷ []) r → Answers ((check b a ∷ cs) ∷ []) r
+  pass e rest = record { answered = λ after. rest .answered after ∙ rw e }
 
-  pub fail : {b : Bool} → b ≡ false → answer-of r ≡ a → Sized ws r → AnsweredBy (check b a ∷ cs) ws r
-  fail e is sized = record { answered = is ∙ rw e; sized = sized }
+  pub fail : {f : Refusal} → b ≡ false → refusal-answer f ≡ a → Answers ((check b a ∷ cs) ∷ []) (Refused f)
+  fail e is = record { answered = λ after. is ∙ rw e }
 
-pub all-pass : {ws : List ℕ} {s : Sizes} → s ≡ sizes-of ws → AnsweredBy [] ws (Good s)
-all-pass e = record { answered = refl; sized = e }
+pub all-pass : Answers ([] ∷ []) Passed
+all-pass = record { answered = λ after. refl }
 
 -- ════════ One part after another ════════
 
-module _ (xs ys : List Check) {ws : List ℕ} where
-  -- After a refusal the later checks do not matter.
-  pub refused-first : {r : Checked} → Refuses r → AnsweredBy xs ws r → AnsweredBy (xs ++ ys) ws r
-  refused-first refused a = record {
-    answered =
-        a .answered
-        ∙ first-failing-refused xs (granted 0) (first-failing ys (granted 0))
-        (false-if-not-true (all-of passing xs)
-        (λ pass. refused (number-of (a .answered ∙ first-failing-passed xs (granted 0) pass))))
-        ∙ sym (first-failing-append xs ys (granted 0));
-    sized = a .sized;
-  }
+pub parts-append : (xs ys : List (List Check)) (after : Answer)
+    → first-failing-part (xs ++ ys) after ≡ first-failing-part xs (first-failing-part ys after)
+parts-append [] ys after = refl
+parts-append (x ∷ xs) ys after = rw (parts-append xs ys after)
 
-  -- After a yes they give the answer.
-  pub granted-first : {g r : Checked} → all-of refusing xs ≡ true → Granted g → AnsweredBy xs ws g → AnsweredBy ys ws r
-      → AnsweredBy (xs ++ ys) ws r
-  granted-first refuse good a b = record {
-    answered =
-        b .answered
-        ∙ sym (first-failing-passed xs (first-failing ys (granted 0))
-        (all-pass-if-granted xs (granted 0) refuse (sym (a .answered) ∙ good)))
-        ∙ sym (first-failing-append xs ys (granted 0));
-    sized = b .sized;
-  }
+module _ (xs ys : List (List Check)) where
+  -- After a pass the later parts give the answer; after a refusal they do not matter.
+  pub passed-first : {r : PartAnswer} → Answers xs Passed → Answers ys r → Answers (xs ++ ys) r
+  passed-first a b = record { answered = λ after. b .answered after ∙ a .answered (first-failing-part ys after) ∙ sym (parts-append xs ys after) }
+
+  pub refused-first : {f : Refusal} → Answers xs (Refused f) → Answers (xs ++ ys) (Refused f)
+  refused-first a = record { answered = λ after. a .answered (first-failing-part ys after) ∙ sym (parts-append xs ys after) }
+
+-- Two parts as one.
+pub one-part : (xs ys : List Check) {r : PartAnswer} → Answers (xs ∷ ys ∷ []) r → Answers ((xs ++ ys) ∷ []) r
+one-part xs ys a = record { answered = λ after. a .answered after ∙ sym (first-failing-append xs ys after) }
 
 -- ════════ A loop over numbers ════════
 
--- The checks of the n numbers from i on.
-abbrev pub checks-from : (ℕ → List Check) → ℕ → ℕ → List Check
-checks-from f i n = each (numbers i n) f
-
 -- Before i all checks passed: what answers those from i on answers all.
-pub record PassedTo (f : ℕ → List Check) (ws : List ℕ) (n i : ℕ) : Type 0 where
+pub record PassedTo (f : ℕ → List Check) (n i : ℕ) : Type 0 where
   pub within : i ≤ n
-  pub rest : (r : Checked) → AnsweredBy (checks-from f i (n - i)) ws r → AnsweredBy (checks-from f 0 n) ws r
+  pub rest : (r : PartAnswer) → Answers (each (numbers i (n - i)) f ∷ []) r → Answers (each-below n f ∷ []) r
 
-module _ {f : ℕ → List Check} {ws : List ℕ} {n : ℕ} where
-  pub passed-none : PassedTo f ws n 0
+module _ {f : ℕ → List Check} {n : ℕ} where
+  pub passed-none : PassedTo f n 0
   passed-none = record {
     within = omega arith;
     rest = λ r a. let e : n - 0 ≡ n = omega arith in rw e at a;
   }
 
-  module _ {i : ℕ} (to : PassedTo f ws n i) where
-    one-more : i < n → checks-from f i (n - i) ≡ f i ++ checks-from f (i + 1) (n - (i + 1))
+  module _ {i : ℕ} (to : PassedTo f n i) where
+    one-more : i < n → each (numbers i (n - i)) f ≡ f i ++ each (numbers (i + 1) (n - (i + 1))) f
     one-more l = let e : n - i ≡ suc (n - (i + 1)) = omega arith in rw (e, add-one i)
 
-    pub passed-more : i < n → all-of refusing (f i) ≡ true → {r : Checked} → AnsweredBy (f i) ws r → Granted r → PassedTo f ws n (i + 1)
-    passed-more l refuse a good = record {
+    pub passed-more : i < n → Answers (f i ∷ []) Passed → PassedTo f n (i + 1)
+    passed-more l a = record {
       within = omega arith;
-      rest = λ r′ a′. to .rest r′ (rw (one-more l) (granted-first (f i) _ refuse good a a′));
+      rest = λ r b. to .rest r (rw (one-more l) (one-part (f i) _ (passed-first (f i ∷ []) _ a b)));
     }
 
-    pub refused-at : i < n → {r : Checked} → AnsweredBy (f i) ws r → Refuses r → AnsweredBy (checks-from f 0 n) ws r
-    refused-at l {r} a refused = to .rest r (rw (one-more l) (refused-first (f i) _ refused a))
+    pub refused-at : i < n → (r : PartAnswer) → tagOf the-type r ≡ 1 → Answers (f i ∷ []) r → Answers (each-below n f ∷ []) r
+    refused-at l Passed e a = absurd (omega arith)
+    refused-at l (Refused g) e a = to .rest (Refused g) (rw (one-more l) (one-part (f i) _ (refused-first (f i ∷ []) _ a)))
 
-    pub passed-all : n ≤ i → {s : Sizes} → s ≡ sizes-of ws → AnsweredBy (checks-from f 0 n) ws (Good s)
-    passed-all l {s} e = to .rest (Good s) (let none : n - i ≡ 0 = omega arith in rw none (all-pass e))
+    pub passed-all : n ≤ i → Answers (each-below n f ∷ []) Passed
+    passed-all l = to .rest Passed (let none : n - i ≡ 0 = omega arith in rw none all-pass)

@@ -6,15 +6,16 @@ use native.Mathlib.Omega.{arith}
 use Rattle.clauses.specs.Answers.{Answer}
 use Rattle.clauses.proofs.Answers.{number-of, place-of}
 use Rattle.meaning.specs.Limits.{inputs-limit, latches-limit, gates-limit, nodes-limit, bound-limit}
-use Rattle.meaning.specs.Check.{known-version, part-checks, parts-checked, problem-checked, check-problem}
+use Rattle.meaning.specs.Problem.{header-words, problem}
+use Rattle.meaning.specs.Check.{problem-checked, check-problem}
 use Rattle.meaning.specs.Cases.{T-words, H}
-use Rattle.problem.specs.declared.Sizes.{Sizes}
+use Rattle.problem.specs.declared.Outline.{Outline}
 use Rattle.problem.specs.declared.Refusal.{Refusal}
 use Rattle.problem.specs.declared.Refusal.the-variants.{BadLength, BadReset, BadLiteral, BadNode}
 use Rattle.problem.specs.declared.Checked.{Checked}
 use Rattle.problem.specs.declared.Checked.the-variants.{Good, Refused}
-use Rattle.problem.specs.Promise.{answer-of, Sized, CheckedAs}
-use Rattle.problem.proofs.Unique.{checked-unique}
+use Rattle.problem.specs.Promise.{answer-of, problem-in, Outlined, OutlinedBy, CheckedAs}
+use Rattle.problem.proofs.Unique.{checked-unique, outline-unique}
 
 -- ════════ What it is to break the promise ════════
 
@@ -26,7 +27,7 @@ pub record Input : Type 0 where
 
 -- The answer that document 01 lays down.
 unfoldable pub laid-down : Input → Answer
-unfolding known-version inputs-limit latches-limit gates-limit nodes-limit bound-limit part-checks parts-checked problem-checked check-problem
+unfolding header-words inputs-limit latches-limit gates-limit nodes-limit bound-limit problem-checked check-problem
 laid-down x = check-problem (x .version) (x .words)
 
 -- This outcome meets the promise for the input, or does not.
@@ -38,9 +39,9 @@ Breaks x r = ¬ (Meets x r)
 
 -- Whatever is not the right outcome breaks it; so does another number, and another place.
 module _ (x : Input) (r : Checked) (right : answer-of (x .right) ≡ laid-down x) where
-  pub other : Sized (x .words) (x .right) → ¬ (r ≡ x .right) → Breaks x r
+  pub other : OutlinedBy (x .version) (x .words) (x .right) → ¬ (r ≡ x .right) → Breaks x r
   unfolding laid-down
-  other sized h m = h (checked-unique (x .version) (x .words) r (x .right) m (record { answered = right; sized = sized }))
+  other outlined h m = h (checked-unique (x .version) (x .words) r (x .right) m (record { answered = right; outlined = outlined }))
 
   pub other-number : ¬ (answer-of r .number ≡ answer-of (x .right) .number) → Breaks x r
   unfolding laid-down
@@ -50,8 +51,8 @@ module _ (x : Input) (r : Checked) (right : answer-of (x .right) ≡ laid-down x
   unfolding laid-down
   other-place h m = h (place-of (m .answered ∙ sym right))
 
--- Words under the known version, and their sizes or their refusal.
-abbrev pub good : List ℕ → Sizes → Input
+-- Words under version 1, and their outline or their refusal.
+abbrev pub good : List ℕ → Outline → Input
 good words s = record { version = 1; words = words; right = Good s }
 
 abbrev pub bad : List ℕ → Refusal → Input
@@ -61,36 +62,40 @@ bad words f = record { version = 1; words = words; right = Refused f }
 abbrev pub T-with : ℕ → ℕ → ℕ → ℕ → ℕ → List ℕ
 T-with next reset op a b = 0 ∷ 1 ∷ 0 ∷ 1 ∷ 0 ∷ next ∷ reset ∷ op ∷ a ∷ b ∷ []
 
--- ════════ Refuses all, accepts all, makes sizes up ════════
+-- ════════ Refuses all, accepts all, makes an outline up ════════
 
-abbrev pub T-sizes : Sizes
-T-sizes = record { inputs = 0; latches = 1; gates = 0; nodes = 1; bound = 0; «gates_from» = 7; «nodes_from» = 7 }
+abbrev pub T-outline : Outline
+T-outline = record { inputs = 0; latches = 1; gates = 0; nodes = 1; bound = 0; width = 1; «latches_from» = 5; «gates_from» = 7; «nodes_from» = 7 }
 
 abbrev pub T : Input
-T = good T-words T-sizes
+T = good T-words T-outline
 
-pub refuses-all-breaks : (r : Checked) → ¬ (r ≡ Good T-sizes) → Breaks T r
+right-outline : Outlined 1 T-words T-outline
+unfolding header-words problem-in problem
+right-outline = record { outline-is = refl; problem-is = refl }
+
+pub refuses-all-breaks : (r : Checked) → ¬ (r ≡ Good T-outline) → Breaks T r
 unfolding laid-down
-refuses-all-breaks r = other T r refl refl
+refuses-all-breaks r = other T r refl right-outline
 
-pub made-up-sizes-breaks : (s : Sizes) → ¬ (s ≡ T-sizes) → Breaks T (Good s)
-made-up-sizes-breaks s h m = h (m .sized)
+pub made-up-outline-breaks : (s : Outline) → ¬ (s ≡ T-outline) → Breaks T (Good s)
+made-up-outline-breaks s h m = h (outline-unique s T-outline (m .outlined .outline-is ∙ sym (right-outline .outline-is)))
 
 -- H with 12 R 1 at k = 3: 0 2 4 3 3, 3 0, 11 0, 2 5, 3 4, 7 9, 2 4, 0 12 0, 0 1 0, 7 0 1
 abbrev pub H-release : Input
 H-release =
     good (H 3 3 (0 ∷ 12 ∷ 0 ∷ 0 ∷ 1 ∷ 0 ∷ 7 ∷ 0 ∷ 1 ∷ []))
-    (record { inputs = 0; latches = 2; gates = 4; nodes = 3; bound = 3; «gates_from» = 9; «nodes_from» = 17 })
+    (record { inputs = 0; latches = 2; gates = 4; nodes = 3; bound = 3; width = 6; «latches_from» = 5; «gates_from» = 9; «nodes_from» = 17 })
 
 pub accepts-only-T-breaks : (r : Checked) → ¬ (r ≡ H-release .right) → Breaks H-release r
-unfolding laid-down
-accepts-only-T-breaks r = other H-release r refl refl
+unfolding laid-down header-words problem-in problem
+accepts-only-T-breaks r = other H-release r refl (record { outline-is = refl; problem-is = refl })
 
 -- No words at all
 abbrev pub no-words : Input
 no-words = bad [] (BadLength 0)
 
-pub accepts-all-breaks : (s : Sizes) → Breaks no-words (Good s)
+pub accepts-all-breaks : (s : Outline) → Breaks no-words (Good s)
 unfolding laid-down
 accepts-all-breaks s = other-number no-words (Good s) refl (λ e. omega arith)
 
@@ -140,8 +145,8 @@ left-itself = bad (0 ∷ 0 ∷ 1 ∷ 1 ∷ 0 ∷ 2 ∷ 0 ∷ 0 ∷ 0 ∷ 0 ∷ [
 abbrev pub right-itself : Input
 right-itself = bad (0 ∷ 0 ∷ 1 ∷ 1 ∷ 0 ∷ 0 ∷ 3 ∷ 0 ∷ 0 ∷ 0 ∷ []) (BadLiteral 6)
 
--- Each takes its input for a good problem, of whatever sizes.
-module _ (s : Sizes) where
+-- Each takes its input for a good problem, of whatever outline.
+module _ (s : Outline) where
   pub length-not-checked-breaks : Breaks T-cut (Good s)
   unfolding laid-down
   length-not-checked-breaks = other-number T-cut (Good s) refl (λ e. omega arith)

@@ -7,7 +7,7 @@ use native.Mathlib.Omega.{arith}
 use lib.ListN.{replicate}
 use Rattle.meaning.specs.Limits.{inputs-limit, latches-limit, gates-limit, nodes-limit, bound-limit}
 use Rattle.meaning.specs.Cases.{T-words}
-use Rattle.problem.specs.declared.Sizes.{Sizes}
+use Rattle.problem.specs.declared.Outline.{Outline}
 use Rattle.problem.specs.declared.Refusal.the-variants.{BadVersion, BadLength, OutsideLimits, BadReset, BadLiteral, BadNode}
 use Rattle.problem.specs.declared.Checked.{Checked}
 use Rattle.problem.specs.declared.Checked.the-variants.{Good, Refused}
@@ -39,7 +39,7 @@ no-nodes = bad (0 ∷ 1 ∷ 0 ∷ 0 ∷ 0 ∷ 3 ∷ 0 ∷ []) (OutsideLimits 3)
 abbrev pub nodes-past-16-bits : Input
 nodes-past-16-bits = bad (0 ∷ 1 ∷ 0 ∷ 65_537 ∷ 0 ∷ 3 ∷ 0 ∷ 0 ∷ 2 ∷ 0 ∷ []) (OutsideLimits 3)
 
-module _ (s : Sizes) where
+module _ (s : Outline) where
   pub inputs-limit-too-large-breaks : Breaks inputs-over (Good s)
   unfolding laid-down inputs-limit
   inputs-limit-too-large-breaks = other-number inputs-over (Good s) refl (λ e. omega arith)
@@ -82,17 +82,17 @@ limit-too-small-breaks i = other-number at-the-limits (Refused (OutsideLimits i)
 
 -- ════════ The version, the header, the limits, the length ════════
 
--- T, told as version 2
+-- T, told as version 9
 abbrev pub T-other-version : Input
-T-other-version = record { version = 2; words = T-words; right = Refused BadVersion }
+T-other-version = record { version = 9; words = T-words; right = Refused BadVersion }
 
 pub any-version-breaks : (r : Checked) → ¬ (r ≡ Refused BadVersion) → Breaks T-other-version r
 unfolding laid-down
 any-version-breaks r = other T-other-version r refl tt
 
--- No words, told as version 2
+-- No words, told as version 9
 abbrev pub none-of-other-version : Input
-none-of-other-version = record { version = 2; words = []; right = Refused BadVersion }
+none-of-other-version = record { version = 9; words = []; right = Refused BadVersion }
 
 pub version-after-words-breaks : (n : ℕ) → Breaks none-of-other-version (Refused (BadLength n))
 unfolding laid-down

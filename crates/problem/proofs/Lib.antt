@@ -1,9 +1,7 @@
--- What the functions' proofs share, that the promises decide the answers, and that wrong versions of the check break its promise.
-pub mod Words
-pub mod Places
-pub mod SizesRead
-pub mod Answered
-pub mod Whole
+-- What follows from the promises, and what the proofs of the functions share.
 pub mod Unique
+pub mod Outlines
+pub mod Answered
+pub mod Formed
 pub mod Lazy
 pub mod LazyOrder

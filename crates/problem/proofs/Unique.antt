@@ -7,7 +7,8 @@ use native.Mathlib.Omega.{arith}
 use lib.ListN.{getD}
 use Rattle.clauses.specs.Answers.{Answer}
 use Rattle.clauses.proofs.Answers.{number-of}
-use Rattle.meaning.specs.Problem as Problem
+use Rattle.meaning.specs.Problem as problems
+use Rattle.problem.specs.declared.Outline.{Outline}
 use Rattle.problem.specs.declared.Refusal.{Refusal}
 use Rattle.problem.specs.declared.Refusal.the-variants.{BadVersion, BadLength, OutsideLimits, BadReset, BadLiteral, BadNode}
 use Rattle.problem.specs.declared.Checked.{Checked}
@@ -16,7 +17,7 @@ use Rattle.problem.specs.declared.Left.{Left}
 use Rattle.problem.specs.declared.Left.the-variants.{Constant, Child}
 use Rattle.problem.specs.declared.Node.{Node}
 use Rattle.problem.specs.declared.Node.the-variants.{Atom, Both, Either, Next, Until, Release}
-use Rattle.problem.specs.Promise.{refusal-answer, answer-of, Sized, CheckedAs, left-of, node-read}
+use Rattle.problem.specs.Promise.{refusal-answer, answer-of, outline-of, outline-back, OutlinedBy, CheckedAs, left-of, node-read}
 
 -- ════════ The refusals ════════
 
@@ -49,33 +50,37 @@ refusal-not-yes (BadNode i) e = omega arith
 
 -- ════════ The check ════════
 
--- Two outcomes with one answer: both the sizes of the words, or one refusal.
-same-outcome : (ws : List ℕ) (r r′ : Checked) → Sized ws r → Sized ws r′ → answer-of r ≡ answer-of r′ → r ≡ r′
-same-outcome ws (Good s) (Good s′) z z′ e = ap Good (z ∙ sym z′)
-same-outcome ws (Good s) (Refused f) z z′ e = absurd (refusal-not-yes f (number-of (sym e)))
-same-outcome ws (Refused f) (Good s) z z′ e = absurd (refusal-not-yes f (number-of e))
-same-outcome ws (Refused f) (Refused f′) z z′ e = ap Refused (refusal-unique f f′ e)
+pub outline-unique : (s s′ : Outline) → outline-of s ≡ outline-of s′ → s ≡ s′
+outline-unique s s′ e = ap outline-back e
+
+-- Two outcomes with one answer: both the outline of the words, or one refusal.
+same-outcome : (version : ℕ) (ws : List ℕ) (r r′ : Checked) → OutlinedBy version ws r → OutlinedBy version ws r′ → answer-of r ≡ answer-of r′ → r ≡ r′
+same-outcome version ws (Good s) (Good s′) o o′ e = ap Good (outline-unique s s′ (o .outline-is ∙ sym (o′ .outline-is)))
+same-outcome version ws (Good s) (Refused f) o o′ e = absurd (refusal-not-yes f (number-of (sym e)))
+same-outcome version ws (Refused f) (Good s) o o′ e = absurd (refusal-not-yes f (number-of e))
+same-outcome version ws (Refused f) (Refused f′) o o′ e = ap Refused (refusal-unique f f′ e)
 
 pub checked-unique : (version : ℕ) (ws : List ℕ) (r r′ : Checked) → CheckedAs version ws r → CheckedAs version ws r′ → r ≡ r′
-checked-unique version ws r r′ a a′ = same-outcome ws r r′ (a .sized) (a′ .sized) (a .answered ∙ sym (a′ .answered))
+checked-unique version ws r r′ a a′ =
+    same-outcome version ws r r′ (a .outlined) (a′ .outlined) (a .answered ∙ sym (a′ .answered))
 
 -- ════════ The nodes ════════
 
-abbrev left-back : Problem.Left → Left
-left-back (Problem.constant b) = Constant b
-left-back (Problem.child c) = Child c
+abbrev left-back : problems.Left → Left
+left-back (problems.constant b) = Constant b
+left-back (problems.child c) = Child c
 
 left-back-of : (l : Left) → left-back (left-of l) ≡ l
 left-back-of (Constant b) = refl
 left-back-of (Child c) = refl
 
-abbrev node-back : Problem.Node → Node
-node-back (Problem.atom x) = Atom x
-node-back (Problem.both a b) = Both a b
-node-back (Problem.either a b) = Either a b
-node-back (Problem.next a) = Next a
-node-back (Problem.until a b) = Until (left-back a) b
-node-back (Problem.release a b) = Release (left-back a) b
+abbrev node-back : problems.Node → Node
+node-back (problems.atom x) = Atom x
+node-back (problems.both a b) = Both a b
+node-back (problems.either a b) = Either a b
+node-back (problems.next a) = Next a
+node-back (problems.until a b) = Until (left-back a) b
+node-back (problems.release a b) = Release (left-back a) b
 
 node-back-of : (r : Node) → node-back (node-read r) ≡ r
 node-back-of (Atom x) = refl

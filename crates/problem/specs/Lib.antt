@@ -1,2 +1,3 @@
 -- What the check of a problem and the readers of its words promise.
 pub mod Promise
+pub mod CheckParts

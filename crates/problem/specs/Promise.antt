@@ -1,15 +1,13 @@
 -- The enums of the crate as the answers and nodes of document 01, and the promises of its public functions. Assumes nothing.
 use mathlib.Core.List.{List}
 use mathlib.Core.Path.{_≡_}
-use Prim.Native.Nat.{ℕ, _≤_}
-use lib.ListN.{length}
-use Rattle.clauses.specs.Answers.{Answer, Check, first-failing, granted}
+use Prim.Native.Nat.{ℕ}
+use Rattle.clauses.specs.Answers.{Answer, granted}
 use Rattle.meaning.specs.Answers.{bad-length, outside-limits, bad-reset, bad-literal, bad-node, bad-job}
-use Rattle.meaning.specs.Limits.{inputs-limit, latches-limit, gates-limit, nodes-limit}
-use Rattle.meaning.specs.Problem as Problem
-use Rattle.meaning.specs.Problem.{header, header-words, gate-place, node-place}
-use Rattle.meaning.specs.Check.{check-problem}
-use Rattle.problem.specs.declared.Sizes.{Sizes}
+use Rattle.meaning.specs.Problem as problems
+use Rattle.meaning.specs.Problem.{Problem, W, outline, problem-by, problem}
+use Rattle.meaning.specs.Check.{Proper, check-problem}
+use Rattle.problem.specs.declared.Outline.{Outline}
 use Rattle.problem.specs.declared.Refusal.{Refusal}
 use Rattle.problem.specs.declared.Refusal.the-variants.{BadVersion, BadLength, OutsideLimits, BadReset, BadLiteral, BadNode}
 use Rattle.problem.specs.declared.Checked.{Checked}
@@ -32,64 +30,75 @@ abbrev pub answer-of : Checked → Answer
 answer-of (Good s) = granted 0
 answer-of (Refused f) = refusal-answer f
 
--- The sizes of a problem, and where its gates and nodes begin in its words.
-abbrev pub sizes-of : List ℕ → Sizes
-sizes-of ws = record {
-  inputs = header ws .inputs;
-  latches = header ws .latches;
-  gates = header ws .gates;
-  nodes = header ws .nodes;
-  bound = header ws .bound;
-  «gates_from» = gate-place (header ws) 0;
-  «nodes_from» = node-place (header ws) 0;
+-- ════════ The outline ════════
+
+-- The outline of the crate as document 01's.
+abbrev pub outline-of : Outline → problems.Outline
+outline-of s = record {
+  inputs = s .inputs;
+  latches = s .latches;
+  gates = s .gates;
+  nodes = s .nodes;
+  bound = s .bound;
+  width = s .width;
+  latches-from = s .«latches_from»;
+  gates-from = s .«gates_from»;
+  nodes-from = s .«nodes_from»;
 }
 
--- A good problem is answered by its sizes.
-abbrev pub Sized : List ℕ → Checked → Type 0
-Sized ws (Good s) = s ≡ sizes-of ws
-Sized ws (Refused f) = Unit
+-- Document 01's as the crate's, and that of a version and words.
+abbrev pub outline-back : problems.Outline → Outline
+outline-back o = record {
+  inputs = o .inputs;
+  latches = o .latches;
+  gates = o .gates;
+  nodes = o .nodes;
+  bound = o .bound;
+  width = o .width;
+  «latches_from» = o .latches-from;
+  «gates_from» = o .gates-from;
+  «nodes_from» = o .nodes-from;
+}
 
--- The check: its answer, and the record where the answer is yes.
+abbrev pub outline-in : ℕ → List ℕ → Outline
+outline-in version ws = outline-back (outline version ws)
+
+-- The problem that an outline shows in words: all that is read of words is said by it.
+unfoldable pub problem-in : Outline → List ℕ → Problem
+problem-in s ws = problem-by (outline-of s) ws
+
+-- It is proper, and the width of the outline is its W.
+pub record ProperIn (s : Outline) (ws : List ℕ) : Type 0 where
+  pub proper : Proper (problem-in s ws)
+  pub width-is : W (problem-in s ws) ≡ s .width
+
+-- ════════ The check ════════
+
+-- The outline is that of the version and the words, and the problem that it shows is theirs.
+pub record Outlined (version : ℕ) (ws : List ℕ) (s : Outline) : Type 0 where
+  pub outline-is : outline-of s ≡ outline version ws
+  pub problem-is : problem-in s ws ≡ problem version ws
+
+abbrev pub OutlinedBy : ℕ → List ℕ → Checked → Type 0
+OutlinedBy version ws (Good s) = Outlined version ws s
+OutlinedBy version ws (Refused f) = Unit
+
+-- The check: its answer, and the outline where the answer is yes.
 pub record CheckedAs (version : ℕ) (ws : List ℕ) (r : Checked) : Type 0 where
   pub answered : answer-of r ≡ check-problem version ws
-  pub sized : Sized ws r
+  pub outlined : OutlinedBy version ws r
+
+-- ════════ The nodes ════════
 
 -- A node of the crate as document 01's.
-abbrev pub left-of : Left → Problem.Left
-left-of (Constant b) = Problem.constant b
-left-of (Child c) = Problem.child c
+abbrev pub left-of : Left → problems.Left
+left-of (Constant b) = problems.constant b
+left-of (Child c) = problems.child c
 
-abbrev pub node-read : Node → Problem.Node
-node-read (Atom x) = Problem.atom x
-node-read (Both a b) = Problem.both a b
-node-read (Either a b) = Problem.either a b
-node-read (Next a) = Problem.next a
-node-read (Until a b) = Problem.until (left-of a) b
-node-read (Release a b) = Problem.release (left-of a) b
-
--- ════════ Inside the check ════════
-
--- What a part of the check answers: its checks in order, and the record where they pass.
-pub record AnsweredBy (cs : List Check) (ws : List ℕ) (r : Checked) : Type 0 where
-  pub answered : answer-of r ≡ first-failing cs (granted 0)
-  pub sized : Sized ws r
-
--- The sizes are within the limits.
-pub record Within (s : Sizes) : Type 0 where
-  pub inputs-within : s .inputs ≤ inputs-limit
-  pub latches-within : s .latches ≤ latches-limit
-  pub gates-within : s .gates ≤ gates-limit
-  pub nodes-within : s .nodes ≤ nodes-limit
-
--- These are the sizes of the words, within the limits.
-pub record Opened (ws : List ℕ) (s : Sizes) : Type 0 where
-  pub sizes-are : s ≡ sizes-of ws
-  pub within : Within s
-
--- The header is there and within the limits.
-pub record InLimits (ws : List ℕ) : Type 0 where
-  pub header-there : header-words ≤ length ws
-  pub inputs-within : header ws .inputs ≤ inputs-limit
-  pub latches-within : header ws .latches ≤ latches-limit
-  pub gates-within : header ws .gates ≤ gates-limit
-  pub nodes-within : header ws .nodes ≤ nodes-limit
+abbrev pub node-read : Node → problems.Node
+node-read (Atom x) = problems.atom x
+node-read (Both a b) = problems.both a b
+node-read (Either a b) = problems.either a b
+node-read (Next a) = problems.next a
+node-read (Until a b) = problems.until (left-of a) b
+node-read (Release a b) = problems.release (left-of a) b

@@ -1,246 +1,237 @@
-// The check of a problem, in document 01's fixed order.
+// The check of a problem, in document 01's fixed order: parts one after another, each of which passes or refuses.
 use crate::Checked;
+use crate::Outline;
 use crate::Refusal;
-use crate::Sizes;
+use crate::header::BOUND;
+use crate::header::GATES;
+use crate::header::INPUTS;
+use crate::header::LATCHES;
+use crate::header::NODES;
+use crate::header::header_words;
+use crate::header::outline;
 use crate::limits::BOUND_LIMIT;
 use crate::limits::GATES_LIMIT;
 use crate::limits::INPUTS_LIMIT;
 use crate::limits::LATCHES_LIMIT;
 use crate::limits::NODES_LIMIT;
-use crate::read::BOUND;
-use crate::read::GATE_WORDS;
-use crate::read::GATES;
-use crate::read::HEADER_WORDS;
-use crate::read::INPUTS;
-use crate::read::LATCHES;
-use crate::read::NODES;
-use crate::read::gate_left;
 use crate::read::gate_place;
-use crate::read::gate_right;
-use crate::read::latch_next;
 use crate::read::latch_place;
-use crate::read::latch_reset;
 use crate::read::node_place;
 use crate::read::word_at;
 ghost use mathlib.Core.Path.{_≡_};
-ghost use Prim.Native.Nat.{_+_, _*_, _<_, _≤_};
-ghost use lib.ListN.{length};
-ghost use Rattle.clauses.specs.Lists.{numbers, each};
-ghost use Rattle.meaning.specs.Problem.{Header, header, header-words};
-ghost use Rattle.meaning.specs.Check.{known-version, opening-checks, latch-checks, gate-checks, node-checks, largest-literal, first-right, second-right};
-ghost use Rattle.problem.specs.Promise.{CheckedAs, AnsweredBy, Within, InLimits, Opened};
-
-// The version that document 01 describes.
-pub const VERSION: u32 = 1;
+ghost use mathlib.Core.List.{List, [], _∷_, _++_};
+ghost use Prim.Native.Nat.{_<_};
+ghost use Rattle.clauses.specs.Answers.{Check};
+ghost use Rattle.meaning.specs.Check.{header-checks, limit-check, limit-checks, length-checks, latch-checks, gate-checks, node-checks, first-right, second-right, each-below, outline-parts};
+ghost use Rattle.problem.specs.Promise.{CheckedAs, outline-of};
+ghost use Rattle.problem.specs.CheckParts.{Answers, Fitting, count-of, checks-of};
 
 // "reset over 2" is refused.
 const LARGEST_RESET: u32 = 2;
 
 // "How many children each op has stands in one fixed table."
-pub const OPS: usize = 8;
+const OPS: usize = 8;
 
-pub const CHILDREN: [u32; OPS] = [0, 2, 2, 1, 1, 1, 2, 2];
+const CHILDREN: [u32; OPS] = [0, 2, 2, 1, 1, 1, 2, 2];
 
-// The record of a problem within the limits.
-fn sizes(words: &[u32]) -> Sizes
-    requires { ⌜ InLimits (now words) ⌝ }
-    ensures { λ r. ⌜ Opened (now (words .entry)) r ⌝ }
+// What a part of the check answers.
+pub(crate) enum PartAnswer {
+    Passed,
+    Refused(Refusal),
+}
+
+// What is checked one by one.
+pub(crate) enum Kind {
+    Latch,
+    Gate,
+    Node,
+}
+
+// Two parts one after the other: the first that refuses gives the answer.
+fn then(first: PartAnswer, second: PartAnswer) -> PartAnswer
+    ensures { λ r. ⌜ ((xs ys : List (List Check)) → Answers xs first → Answers ys second → Answers (xs ++ ys) r) ⌝ }
 {
-    let latches = words[LATCHES];
-    let gates = words[GATES];
-    let gates_from = latch_place(latches);
-    let nodes_from = gates_from + GATE_WORDS * (gates as usize);
-    Sizes {
-        inputs: words[INPUTS],
-        latches,
-        gates,
-        nodes: words[NODES],
-        bound: words[BOUND],
-        gates_from: gates_from as u32,
-        nodes_from: nodes_from as u32,
+    match first {
+        PartAnswer::Passed => second,
+        PartAnswer::Refused(f) => PartAnswer::Refused(f),
     }
 }
 
-// The limits in order, then the length.
-fn limits(words: &[u32]) -> Checked
-    requires { ⌜ header-words ≤ length (now words) ⌝ }
-    ensures { λ r. ⌜ AnsweredBy (opening-checks known-version (now (words .entry))) (now (words .entry)) r ⌝ }
+// The version is known, and the words of its header are there.
+fn header(version: u32, words: &[u32]) -> PartAnswer
+    ensures { λ r. ⌜ Answers (header-checks version (now (words .entry)) ∷ []) r ⌝ }
 {
-    if INPUTS_LIMIT < words[INPUTS] {
-        return Checked::Refused(Refusal::OutsideLimits(INPUTS));
+    let size = header_words(version);
+    if size == 0 {
+        return PartAnswer::Refused(Refusal::BadVersion);
     }
-    if LATCHES_LIMIT < words[LATCHES] {
-        return Checked::Refused(Refusal::OutsideLimits(LATCHES));
+    if words.len() < (size as usize) {
+        return PartAnswer::Refused(Refusal::BadLength(words.len()));
     }
-    if GATES_LIMIT < words[GATES] {
-        return Checked::Refused(Refusal::OutsideLimits(GATES));
+    PartAnswer::Passed
+}
+
+// The header's word at a place is within its limits.
+fn limit(words: &[u32], at: usize, least: u32, most: u32) -> PartAnswer
+    ensures { λ r. ⌜ Answers ((limit-check (now (words .entry)) at least most ∷ []) ∷ []) r ⌝ }
+{
+    let size = word_at(words, at);
+    if size < least {
+        return PartAnswer::Refused(Refusal::OutsideLimits(at));
     }
-    if words[NODES] < 1 {
-        return Checked::Refused(Refusal::OutsideLimits(NODES));
+    if most < size {
+        return PartAnswer::Refused(Refusal::OutsideLimits(at));
     }
-    if NODES_LIMIT < words[NODES] {
-        return Checked::Refused(Refusal::OutsideLimits(NODES));
-    }
-    if BOUND_LIMIT < words[BOUND] {
-        return Checked::Refused(Refusal::OutsideLimits(BOUND));
-    }
-    let s = sizes(words);
+    PartAnswer::Passed
+}
+
+fn limits(words: &[u32]) -> PartAnswer
+    ensures { λ r. ⌜ Answers (limit-checks (now (words .entry)) ∷ []) r ⌝ }
+{
+    let to_latches = then(
+        limit(words, INPUTS, 0, INPUTS_LIMIT),
+        limit(words, LATCHES, 0, LATCHES_LIMIT),
+    );
+    let to_gates = then(to_latches, limit(words, GATES, 0, GATES_LIMIT));
+    let to_nodes = then(to_gates, limit(words, NODES, 1, NODES_LIMIT));
+    then(to_nodes, limit(words, BOUND, 0, BOUND_LIMIT))
+}
+
+fn length(words: &[u32], s: Outline) -> PartAnswer
+    ensures { λ r. ⌜ Answers (length-checks (outline-of s) (now (words .entry)) ∷ []) r ⌝ }
+{
     if words.len() != node_place(s, s.nodes) {
-        return Checked::Refused(Refusal::BadLength(words.len()));
+        return PartAnswer::Refused(Refusal::BadLength(words.len()));
     }
-    Checked::Good(s)
+    PartAnswer::Passed
 }
 
-// The version, 5 words, limits, length.
-fn opening(version: u32, words: &[u32]) -> Checked
-    ensures { λ r. ⌜ AnsweredBy (opening-checks version (now (words .entry))) (now (words .entry)) r ⌝ }
+fn latch(words: &[u32], s: Outline, i: u32) -> PartAnswer
+    requires { ⌜ Fitting s ⌝ }
+    ensures { λ r. ⌜ Answers (latch-checks (outline-of s) (now (words .entry)) i ∷ []) r ⌝ }
 {
-    if version != VERSION {
-        return Checked::Refused(Refusal::BadVersion);
+    let at = latch_place(s, i);
+    if 2 * s.width + 1 < word_at(words, at) {
+        return PartAnswer::Refused(Refusal::BadLiteral(at));
     }
-    if words.len() < HEADER_WORDS {
-        return Checked::Refused(Refusal::BadLength(words.len()));
+    if LARGEST_RESET < word_at(words, at + 1) {
+        return PartAnswer::Refused(Refusal::BadReset(at + 1));
     }
-    limits(words)
+    PartAnswer::Passed
 }
 
-// "at most 2W + 1"
-fn literal_limit(s: Sizes) -> u32
-    requires { ⌜ Within s ⌝ }
-    ensures { λ r. ⌜ r ≡ 2 * (s .inputs + s .latches + s .gates) + 1 ⌝ }
+fn gate(words: &[u32], s: Outline, j: u32) -> PartAnswer
+    requires { ⌜ Fitting s × (j < s .gates) ⌝ }
+    ensures { λ r. ⌜ Answers (gate-checks (outline-of s) (now (words .entry)) j ∷ []) r ⌝ }
 {
-    2 * (s.inputs + s.latches + s.gates) + 1
-}
-
-fn latch(words: &[u32], s: Sizes, i: u32) -> Checked
-    requires { ⌜ Opened (now words) s × (i < s .latches) ⌝ }
-    ensures { λ r. ⌜ AnsweredBy (latch-checks (header (now (words .entry))) (now (words .entry)) i) (now (words .entry)) r ⌝ }
-{
-    let next_at = latch_place(i);
-    let reset_at = next_at + 1;
-    let limit = literal_limit(s);
-    let next = latch_next(words, i);
-    let reset = latch_reset(words, i);
-    if limit < next {
-        return Checked::Refused(Refusal::BadLiteral(next_at));
-    }
-    if LARGEST_RESET < reset {
-        return Checked::Refused(Refusal::BadReset(reset_at));
-    }
-    Checked::Good(s)
-}
-
-fn latches(words: &[u32], s: Sizes) -> Checked
-    requires { ⌜ Opened (now words) s ⌝ }
-    ensures { λ r. ⌜ AnsweredBy (each (numbers 0 (s .latches)) (latch-checks (header (now (words .entry))) (now (words .entry)))) (now (words .entry)) r ⌝ }
-{
-    let mut i: u32 = 0;
-    while i < s.latches {
-        let r = latch(words, s, i);
-        let Checked::Good(_) = r else {
-            return r;
-        };
-        i += 1;
-    }
-    Checked::Good(s)
-}
-
-fn gate(words: &[u32], s: Sizes, j: u32) -> Checked
-    requires { ⌜ Opened (now words) s × (j < s .gates) ⌝ }
-    ensures { λ r. ⌜ AnsweredBy (gate-checks (header (now (words .entry))) (now (words .entry)) j) (now (words .entry)) r ⌝ }
-{
-    let left_at = gate_place(s, j);
-    let right_at = left_at + 1;
+    let at = gate_place(s, j);
     let limit = 2 * (s.inputs + s.latches + j + 1);
-    let left = gate_left(words, s, j);
-    let right = gate_right(words, s, j);
-    if limit <= left {
-        return Checked::Refused(Refusal::BadLiteral(left_at));
+    if limit <= word_at(words, at) {
+        return PartAnswer::Refused(Refusal::BadLiteral(at));
     }
-    if limit <= right {
-        return Checked::Refused(Refusal::BadLiteral(right_at));
+    if limit <= word_at(words, at + 1) {
+        return PartAnswer::Refused(Refusal::BadLiteral(at + 1));
     }
-    Checked::Good(s)
-}
-
-fn gates(words: &[u32], s: Sizes) -> Checked
-    requires { ⌜ Opened (now words) s ⌝ }
-    ensures { λ r. ⌜ AnsweredBy (each (numbers 0 (s .gates)) (gate-checks (header (now (words .entry))) (now (words .entry)))) (now (words .entry)) r ⌝ }
-{
-    let mut j: u32 = 0;
-    while j < s.gates {
-        let r = gate(words, s, j);
-        let Checked::Good(_) = r else {
-            return r;
-        };
-        j += 1;
-    }
-    Checked::Good(s)
+    PartAnswer::Passed
 }
 
 // The word a of a node: an atom's literal, or an earlier node.
-fn first_word(children: u32, n: u32, limit: u32, a: u32) -> bool
-    ensures { λ r. ⌜ ((h : Header) → limit ≡ largest-literal h → r ≡ first-right h n children a) ⌝ }
+fn first_word(s: Outline, n: u32, children: u32, a: u32) -> bool
+    requires { ⌜ Fitting s ⌝ }
+    ensures { λ r. ⌜ r ≡ first-right (outline-of s) n children a ⌝ }
 {
-    if children == 0 { a <= limit } else { a < n }
+    if children == 0 {
+        a <= 2 * s.width + 1
+    } else {
+        a < n
+    }
 }
 
 // The word b: an earlier node where there is a second child, else 0.
-fn second_word(children: u32, n: u32, b: u32) -> bool
+fn second_word(n: u32, children: u32, b: u32) -> bool
     ensures { λ r. ⌜ r ≡ second-right n children b ⌝ }
 {
     if children < 2 { b == 0 } else { b < n }
 }
 
-fn node(words: &[u32], s: Sizes, n: u32) -> Checked
-    requires { ⌜ Opened (now words) s × (n < s .nodes) ⌝ }
-    ensures { λ r. ⌜ AnsweredBy (node-checks (header (now (words .entry))) (now (words .entry)) n) (now (words .entry)) r ⌝ }
+fn node(words: &[u32], s: Outline, n: u32) -> PartAnswer
+    requires { ⌜ Fitting s ⌝ }
+    ensures { λ r. ⌜ Answers (node-checks (outline-of s) (now (words .entry)) n ∷ []) r ⌝ }
 {
     let at = node_place(s, n);
     let op = word_at(words, at) as usize;
     if OPS <= op {
-        return Checked::Refused(Refusal::BadNode(at));
+        return PartAnswer::Refused(Refusal::BadNode(at));
     }
     let children = CHILDREN[op];
-    if !first_word(children, n, literal_limit(s), word_at(words, at + 1)) {
-        return Checked::Refused(Refusal::BadNode(at + 1));
+    if !first_word(s, n, children, word_at(words, at + 1)) {
+        return PartAnswer::Refused(Refusal::BadNode(at + 1));
     }
-    if !second_word(children, n, word_at(words, at + 2)) {
-        return Checked::Refused(Refusal::BadNode(at + 2));
+    if !second_word(n, children, word_at(words, at + 2)) {
+        return PartAnswer::Refused(Refusal::BadNode(at + 2));
     }
-    Checked::Good(s)
+    PartAnswer::Passed
 }
 
-fn nodes(words: &[u32], s: Sizes) -> Checked
-    requires { ⌜ Opened (now words) s ⌝ }
-    ensures { λ r. ⌜ AnsweredBy (each (numbers 0 (s .nodes)) (node-checks (header (now (words .entry))) (now (words .entry)))) (now (words .entry)) r ⌝ }
+fn count(s: Outline, kind: Kind) -> u32
+    ensures { λ r. ⌜ r ≡ count-of kind (outline-of s) ⌝ }
 {
-    let mut n: u32 = 0;
-    while n < s.nodes {
-        let r = node(words, s, n);
-        let Checked::Good(_) = r else {
+    match kind {
+        Kind::Latch => s.latches,
+        Kind::Gate => s.gates,
+        Kind::Node => s.nodes,
+    }
+}
+
+fn one(words: &[u32], s: Outline, kind: Kind, i: u32) -> PartAnswer
+    requires { ⌜ Fitting s × (i < count-of kind (outline-of s)) ⌝ }
+    ensures { λ r. ⌜ Answers (checks-of kind (outline-of s) (now (words .entry)) i ∷ []) r ⌝ }
+{
+    match kind {
+        Kind::Latch => latch(words, s, i),
+        Kind::Gate => gate(words, s, i),
+        Kind::Node => node(words, s, i),
+    }
+}
+
+// All of a kind, in their order.
+fn all(words: &[u32], s: Outline, kind: Kind) -> PartAnswer
+    requires { ⌜ Fitting s ⌝ }
+    ensures { λ r. ⌜ Answers (each-below (count-of kind (outline-of s)) (checks-of kind (outline-of s) (now (words .entry))) ∷ []) r ⌝ }
+{
+    let n = count(s, kind);
+    let mut i: u32 = 0;
+    while i < n {
+        let r = one(words, s, kind, i);
+        let PartAnswer::Passed = r else {
             return r;
         };
-        n += 1;
+        i += 1;
     }
-    Checked::Good(s)
+    PartAnswer::Passed
 }
 
-// The whole check: 15, then 1 to 5, or the record of a good problem.
+// The parts that the outline tells of.
+fn parts(words: &[u32], s: Outline) -> PartAnswer
+    requires { ⌜ Fitting s ⌝ }
+    ensures { λ r. ⌜ Answers (outline-parts (outline-of s) (now (words .entry))) r ⌝ }
+{
+    let to_latches = then(length(words, s), all(words, s, Kind::Latch));
+    let to_gates = then(to_latches, all(words, s, Kind::Gate));
+    then(to_gates, all(words, s, Kind::Node))
+}
+
+// The whole check: 15, then 1 to 5, or the outline of a good problem.
 pub fn check(version: u32, words: &[u32]) -> Checked
     ensures { λ r. ⌜ CheckedAs version (now (words .entry)) r ⌝ }
 {
-    let opened = opening(version, words);
-    let Checked::Good(s) = opened else {
-        return opened;
-    };
-    let by_latches = latches(words, s);
-    let Checked::Good(_) = by_latches else {
-        return by_latches;
-    };
-    let by_gates = gates(words, s);
-    let Checked::Good(_) = by_gates else {
-        return by_gates;
-    };
-    nodes(words, s)
+    let opening = then(header(version, words), limits(words));
+    if let PartAnswer::Refused(f) = opening {
+        return Checked::Refused(f);
+    }
+    let s = outline(version, words);
+    match parts(words, s) {
+        PartAnswer::Passed => Checked::Good(s),
+        PartAnswer::Refused(f) => Checked::Refused(f),
+    }
 }

@@ -1,20 +1,24 @@
 // Checks a problem, and reads its parts.
+pub mod answer;
 pub mod check;
+pub mod header;
 pub mod limits;
 pub mod read;
 
-// The sizes of a problem, and where its gates and its nodes begin in its words.
-pub struct Sizes {
+// The sizes of a problem, its W, and where each of its parts begins in its words.
+pub struct Outline {
     pub inputs: u32,
     pub latches: u32,
     pub gates: u32,
     pub nodes: u32,
     pub bound: u32,
+    pub width: u32,
+    pub latches_from: u32,
     pub gates_from: u32,
     pub nodes_from: u32,
 }
 
-// Document 01's refusals of a problem; specs/Promise.antt gives the number of each.
+// Document 01's refusals of a problem; `answer` gives the number and the place of each.
 pub enum Refusal {
     BadVersion,
     BadLength(usize),
@@ -24,9 +28,9 @@ pub enum Refusal {
     BadNode(usize),
 }
 
-// The outcome of the check: the sizes of a good problem, or the refusal.
+// The outcome of the check: the outline of a good problem, or the refusal.
 pub enum Checked {
-    Good(Sizes),
+    Good(Outline),
     Refused(Refusal),
 }
 

@@ -1,87 +1,92 @@
-// The parts of a problem's words. Each reader is total: past the end it reads 0.
+// The parts of the problem that an outline shows in words. Each reader is total: past the end it reads what document 01's lists have there.
 use crate::Left;
 use crate::Node;
-use crate::Sizes;
+use crate::Outline;
 ghost use mathlib.Core.Path.{_≡_};
-ghost use Prim.Native.Nat.{_+_, _*_};
-ghost use lib.ListN.{getD};
-ghost use Rattle.meaning.specs.Problem.{word, header-words, node-of};
-ghost use Rattle.problem.specs.Promise.{node-read};
-
-// "A lent slice of 32-bit words: I, L, A, N, k": the place of each, and how many they are.
-pub const INPUTS: usize = 0;
-
-pub const LATCHES: usize = 1;
-
-pub const GATES: usize = 2;
-
-pub const NODES: usize = 3;
-
-pub const BOUND: usize = 4;
-
-pub const HEADER_WORDS: usize = 5;
+ghost use Rattle.meaning.specs.Problem.{word, latch-place, gate-place, node-place, latch, gate, node, node-of};
+ghost use Rattle.problem.specs.Promise.{outline-of, problem-in, node-read};
 
 // Pairs for the latches, pairs for the gates, triples for the nodes.
-pub const LATCH_WORDS: usize = 2;
+const LATCH_WORDS: usize = 2;
 
-pub const GATE_WORDS: usize = 2;
+const GATE_WORDS: usize = 2;
 
-pub const NODE_WORDS: usize = 3;
+const NODE_WORDS: usize = 3;
+
+// The reset of a latch that is not there: free.
+const FREE: u32 = 2;
 
 // The word at a place, or 0 past the end.
-pub fn word_at(words: &[u32], at: usize) -> u32
+pub(crate) fn word_at(words: &[u32], at: usize) -> u32
     ensures { λ r. ⌜ r ≡ word (now (words .entry)) at ⌝ }
 {
     if at < words.len() { words[at] } else { 0 }
 }
 
 // Where the words of a latch, a gate or a node begin.
-pub fn latch_place(i: u32) -> usize
-    ensures { λ r. ⌜ r ≡ header-words + 2 * i ⌝ }
+pub(crate) fn latch_place(s: Outline, i: u32) -> usize
+    ensures { λ r. ⌜ r ≡ latch-place (outline-of s) i ⌝ }
 {
-    HEADER_WORDS + LATCH_WORDS * (i as usize)
+    let from = s.latches_from as usize;
+    from + LATCH_WORDS * (i as usize)
 }
 
-pub fn gate_place(s: Sizes, j: u32) -> usize
-    ensures { λ r. ⌜ r ≡ s .«gates_from» + 2 * j ⌝ }
+pub fn gate_place(s: Outline, j: u32) -> usize
+    ensures { λ r. ⌜ r ≡ gate-place (outline-of s) j ⌝ }
 {
     let from = s.gates_from as usize;
     from + GATE_WORDS * (j as usize)
 }
 
-pub fn node_place(s: Sizes, n: u32) -> usize
-    ensures { λ r. ⌜ r ≡ s .«nodes_from» + 3 * n ⌝ }
+pub(crate) fn node_place(s: Outline, n: u32) -> usize
+    ensures { λ r. ⌜ r ≡ node-place (outline-of s) n ⌝ }
 {
     let from = s.nodes_from as usize;
     from + NODE_WORDS * (n as usize)
 }
 
-pub fn latch_next(words: &[u32], i: u32) -> u32
-    ensures { λ r. ⌜ r ≡ word (now (words .entry)) (header-words + 2 * i) ⌝ }
+pub fn latch_next(words: &[u32], s: Outline, i: u32) -> u32
+    ensures { λ r. ⌜ r ≡ latch (problem-in s (now (words .entry))) i .next ⌝ }
 {
-    word_at(words, latch_place(i))
+    if i < s.latches {
+        word_at(words, latch_place(s, i))
+    } else {
+        0
+    }
 }
 
-pub fn latch_reset(words: &[u32], i: u32) -> u32
-    ensures { λ r. ⌜ r ≡ word (now (words .entry)) (header-words + 2 * i + 1) ⌝ }
+pub fn latch_reset(words: &[u32], s: Outline, i: u32) -> u32
+    ensures { λ r. ⌜ r ≡ latch (problem-in s (now (words .entry))) i .reset ⌝ }
 {
-    word_at(words, latch_place(i) + 1)
+    if i < s.latches {
+        word_at(words, latch_place(s, i) + 1)
+    } else {
+        FREE
+    }
 }
 
-pub fn gate_left(words: &[u32], s: Sizes, j: u32) -> u32
-    ensures { λ r. ⌜ r ≡ word (now (words .entry)) (s .«gates_from» + 2 * j) ⌝ }
+pub fn gate_left(words: &[u32], s: Outline, j: u32) -> u32
+    ensures { λ r. ⌜ r ≡ gate (problem-in s (now (words .entry))) j .left ⌝ }
 {
-    word_at(words, gate_place(s, j))
+    if j < s.gates {
+        word_at(words, gate_place(s, j))
+    } else {
+        0
+    }
 }
 
-pub fn gate_right(words: &[u32], s: Sizes, j: u32) -> u32
-    ensures { λ r. ⌜ r ≡ word (now (words .entry)) (s .«gates_from» + 2 * j + 1) ⌝ }
+pub fn gate_right(words: &[u32], s: Outline, j: u32) -> u32
+    ensures { λ r. ⌜ r ≡ gate (problem-in s (now (words .entry))) j .right ⌝ }
 {
-    word_at(words, gate_place(s, j) + 1)
+    if j < s.gates {
+        word_at(words, gate_place(s, j) + 1)
+    } else {
+        0
+    }
 }
 
 // The node of an op and its words a and b; an op that is not known is the atom false.
-pub fn shape(op: u32, a: u32, b: u32) -> Node
+fn shape(op: u32, a: u32, b: u32) -> Node
     ensures { λ r. ⌜ node-read r ≡ node-of op a b ⌝ }
 {
     match op {
@@ -98,9 +103,12 @@ pub fn shape(op: u32, a: u32, b: u32) -> Node
 }
 
 // The node of a number.
-pub fn node(words: &[u32], s: Sizes, n: u32) -> Node
-    ensures { λ r. ⌜ node-read r ≡ node-of (word (now (words .entry)) (s .«nodes_from» + 3 * n)) (word (now (words .entry)) (s .«nodes_from» + 3 * n + 1)) (word (now (words .entry)) (s .«nodes_from» + 3 * n + 2)) ⌝ }
+pub fn node(words: &[u32], s: Outline, n: u32) -> Node
+    ensures { λ r. ⌜ node-read r ≡ node (problem-in s (now (words .entry))) n ⌝ }
 {
+    if s.nodes <= n {
+        return Node::Atom(0);
+    }
     let at = node_place(s, n);
     shape(
         word_at(words, at),

@@ -5,12 +5,12 @@ use Prim.Native.Nat.{ℕ}
 use lib.ListN.{replicate}
 use Rattle.clauses.specs.Refutations.{area-after}
 use Rattle.refutation.specs.Promise.{Judged}
-use Rattle.refutation.specs.declared.Judgement.{Judgement}
-use Rattle.refutation.specs.declared.Judgement.the-variants.{Yes, BadCnf, BadRefutation, AreaTooSmall, StepRefused, NotClosed}
+use Rattle.refutation.specs.declared.RefutationAnswer.{RefutationAnswer}
+use Rattle.refutation.specs.declared.RefutationAnswer.the-variants.{Yes, BadCnf, BadRefutation, AreaTooSmall, StepRefused, NotClosed}
 use Rattle.refutation.proofs.Lazy.{Input, laid-down, T, T-other, T-open, bad-hint, few-numbers, bad-cnf-literal}
 use Rattle.refutation.proofs.LazyAreas.{T-roomy}
 
-abbrev pub Meets : Input → Judgement → List ℕ → List ℕ → Type 0
+abbrev pub Meets : Input → RefutationAnswer → List ℕ → List ℕ → Type 0
 Meets x r numbers′ clauses′ = Judged (x .variables) (x .cnf) (x .refutation) (x .numbers) (x .clauses) r numbers′ clauses′
 
 pub yes-meets : Meets T Yes (replicate 7 0) (replicate 13 0)

@@ -12,9 +12,9 @@ use Rattle.clauses.specs.Refutations.{judge-cnf, judge-clauses, judge-steps, re
 use Rattle.clauses.specs.Cases.{T-cnf, T-steps, T-other-steps}
 use Rattle.clauses.proofs.Answers.{number-of, place-of}
 use Rattle.refutation.specs.Promise.{Judged, CnfCounted, StepsCounted, answer-of}
-use Rattle.refutation.specs.declared.Judgement.{Judgement}
-use Rattle.refutation.specs.declared.Judgement.the-variants.{Yes, BadCnf, BadRefutation, AreaTooSmall, StepRefused, NotClosed}
-use Rattle.refutation.specs.declared.Counted.the-variants.{Count, BadAt}
+use Rattle.refutation.specs.declared.RefutationAnswer.{RefutationAnswer}
+use Rattle.refutation.specs.declared.RefutationAnswer.the-variants.{Yes, BadCnf, BadRefutation, AreaTooSmall, StepRefused, NotClosed}
+use Rattle.refutation.specs.declared.WordsCounted.the-variants.{Count, BadAt}
 
 -- ════════ What it is to break the promise ════════
 
@@ -26,11 +26,11 @@ pub record Input : Type 0 where
   pub clauses : List ℕ
 
 -- This answer, with these work areas after it, does not meet the promise for the input.
-abbrev pub Breaks : Input → Judgement → List ℕ → List ℕ → Type 0
+abbrev pub Breaks : Input → RefutationAnswer → List ℕ → List ℕ → Type 0
 Breaks x r numbers′ clauses′ = ¬ (Judged (x .variables) (x .cnf) (x .refutation) (x .numbers) (x .clauses) r numbers′ clauses′)
 
 -- This answer does not meet the promise for the input, whatever the work areas are after it.
-abbrev pub Wrong : Input → Judgement → Type 0
+abbrev pub Wrong : Input → RefutationAnswer → Type 0
 Wrong x r = (numbers′ clauses′ : List ℕ) → Breaks x r numbers′ clauses′
 
 -- The answer that document 01 lays down.
@@ -38,7 +38,7 @@ unfoldable pub laid-down : Input → Answer
 unfolding judge-cnf judge-clauses judge-steps refutation-checks area-checks step-accepted cnf-checks variables-limit
 laid-down x = judge-cnf (x .variables) (x .cnf) (x .refutation) (length (x .numbers)) (length (x .clauses))
 
-module _ (x : Input) (r : Judgement) where
+module _ (x : Input) (r : RefutationAnswer) where
   pub wrong-number : ¬ (answer-of r .number ≡ laid-down x .number) → Wrong x r
   unfolding laid-down
   wrong-number h numbers′ clauses′ j = h (number-of (j .answered))
@@ -61,7 +61,7 @@ T-other = over-T T-other-steps 7 13
 
 -- ════════ Refuses all, accepts all ════════
 
-pub refuses-all-breaks : (r : Judgement) → ¬ (r ≡ Yes) → Wrong T r
+pub refuses-all-breaks : (r : RefutationAnswer) → ¬ (r ≡ Yes) → Wrong T r
 unfolding laid-down
 refuses-all-breaks Yes h = absurd (h refl)
 refuses-all-breaks (BadCnf i) h = wrong-number T (BadCnf i) (λ e. omega arith)
@@ -188,7 +188,7 @@ unfolding laid-down
 length-for-bad-cnf-word-breaks = wrong-place bad-and-cut-cnf (BadCnf 3) (λ e. omega arith)
 
 -- Over the limit the answer is 16, before 11, 12, 13, 14 and yes.
-pub cnf-judged-last-breaks : (r : Judgement) → ¬ (answer-of r .number ≡ 16) → Wrong over-limit r
+pub cnf-judged-last-breaks : (r : RefutationAnswer) → ¬ (answer-of r .number ≡ 16) → Wrong over-limit r
 unfolding laid-down variables-limit
 cnf-judged-last-breaks r h = wrong-number over-limit r h
 

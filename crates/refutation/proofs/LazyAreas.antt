@@ -11,7 +11,7 @@ use Rattle.clauses.specs.CnfWords.{clauses-of}
 use Rattle.clauses.specs.Refutations.{steps-of, numbers-area, clauses-area, judged, area-after}
 use Rattle.clauses.specs.Cases.{T-steps, T-other-steps}
 use Rattle.refutation.specs.Promise.{answer-of}
-use Rattle.refutation.specs.declared.Judgement.{Judgement}
+use Rattle.refutation.specs.declared.RefutationAnswer.{RefutationAnswer}
 use Rattle.refutation.proofs.Lazy.{Input, Breaks, laid-down, over-T, T, T-other, T-open, bad-hint, few-numbers, few-clauses, bad-cnf-literal}
 
 -- ════════ An area after the call ════════
@@ -36,7 +36,7 @@ module _ (a : Answer) (needed : ℕ) (area : List ℕ) where
 
 -- ════════ Any input at which the steps are judged: yes, 13, 14 ════════
 
-module _ (x : Input) (e : judged (laid-down x) ≡ true) (r : Judgement) (numbers′ clauses′ : List ℕ) (i : ℕ) where
+module _ (x : Input) (e : judged (laid-down x) ≡ true) (r : RefutationAnswer) (numbers′ clauses′ : List ℕ) (i : ℕ) where
   pub number-word-left-breaks : i < numbers-area (x .variables) → ¬ (getD numbers′ i 0 ≡ 0) → Breaks x r numbers′ clauses′
   unfolding laid-down
   number-word-left-breaks h w j =
@@ -61,7 +61,7 @@ module _ (x : Input) (e : judged (laid-down x) ≡ true) (r : Judgement) (number
 
 -- ════════ Any input at which they are not: 11, 12, 16 ════════
 
-module _ (x : Input) (e : judged (laid-down x) ≡ false) (r : Judgement) (numbers′ clauses′ : List ℕ) where
+module _ (x : Input) (e : judged (laid-down x) ≡ false) (r : RefutationAnswer) (numbers′ clauses′ : List ℕ) where
   pub numbers-changed-breaks : ¬ (numbers′ ≡ x .numbers) → Breaks x r numbers′ clauses′
   unfolding laid-down
   numbers-changed-breaks w j = w (j .numbers-left ∙ untouched (answer-of r) _ _ (ap judged (j .answered) ∙ e))
@@ -73,7 +73,7 @@ module _ (x : Input) (e : judged (laid-down x) ≡ false) (r : Judgement) (numbe
 -- ════════ A work word left behind, at T and the like ════════
 
 -- The judge gives any answer, and leaves any areas; T needs 7 and 13 words.
-module _ (r : Judgement) (numbers′ clauses′ : List ℕ) (i : ℕ) where
+module _ (r : RefutationAnswer) (numbers′ clauses′ : List ℕ) (i : ℕ) where
   pub number-left-at-yes-breaks : i < 7 → ¬ (getD numbers′ i 0 ≡ 0) → Breaks T r numbers′ clauses′
   unfolding laid-down
   number-left-at-yes-breaks = number-word-left-breaks T refl r numbers′ clauses′ i
@@ -105,7 +105,7 @@ T-roomy = over-T T-steps 9 15
 abbrev pub T-other-roomy : Input
 T-other-roomy = over-T T-other-steps 9 15
 
-module _ (r : Judgement) (numbers′ clauses′ : List ℕ) (i : ℕ) where
+module _ (r : RefutationAnswer) (numbers′ clauses′ : List ℕ) (i : ℕ) where
   pub number-past-at-yes-breaks : 7 ≤ i → i < 9 → ¬ (getD numbers′ i 0 ≡ 9) → Breaks T-roomy r numbers′ clauses′
   unfolding laid-down
   number-past-at-yes-breaks h l w =
@@ -128,7 +128,7 @@ module _ (r : Judgement) (numbers′ clauses′ : List ℕ) (i : ℕ) where
 
 -- ════════ A buffer changed at 11, 12 or 16 ════════
 
-module _ (r : Judgement) (numbers′ clauses′ : List ℕ) where
+module _ (r : RefutationAnswer) (numbers′ clauses′ : List ℕ) where
   pub numbers-changed-at-bad-word-breaks : ¬ (numbers′ ≡ bad-hint .numbers) → Breaks bad-hint r numbers′ clauses′
   unfolding laid-down
   numbers-changed-at-bad-word-breaks = numbers-changed-breaks bad-hint refl r numbers′ clauses′

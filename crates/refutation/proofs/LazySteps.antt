@@ -2,6 +2,7 @@
 use mathlib.Core.Path.{_≡_, refl}
 use mathlib.Core.Bool.{Bool, true, false, not, cond, _&&_, _||_}
 use mathlib.Core.List.{List, [], _∷_, _++_, map}
+use mathlib.Core.Option.{Option·getD}
 use Prim.Native.Nat.{ℕ, suc, _+_}
 use native.Mathlib.Omega.{arith}
 use lib.IntN.{ℤ, pos, negsuc}
@@ -13,8 +14,8 @@ use Rattle.clauses.specs.Clauses.{Clause, negated, same}
 use Rattle.clauses.specs.CnfWords.{clauses-of}
 use Rattle.clauses.specs.Refutations.{Step, steps-of, both-signs, clause-numbered, not-false, Outcome, conflict, unit, neither, outcome, hints-conflict, step-accepted, step-checks, clauses-after, last-is-empty-after, judge-steps}
 use Rattle.refutation.specs.Promise.{answer-of}
-use Rattle.refutation.specs.declared.Judgement.{Judgement}
-use Rattle.refutation.specs.declared.Judgement.the-variants.{Yes, StepRefused, NotClosed}
+use Rattle.refutation.specs.declared.RefutationAnswer.{RefutationAnswer}
+use Rattle.refutation.specs.declared.RefutationAnswer.the-variants.{Yes, StepRefused, NotClosed}
 use Rattle.refutation.proofs.Lazy.{Input, Wrong, laid-down, wrong-number, over-T}
 
 -- ════════ Judging by a rule ════════
@@ -24,19 +25,19 @@ abbrev pub Rule : Type 0
 Rule = List Clause → ℕ → Step → List Step → Bool
 
 -- The steps from number i on; `closed` says whether the clause before them is empty.
-abbrev pub steps-by : Rule → List Clause → ℕ → Bool → List Step → Judgement
+abbrev pub steps-by : Rule → List Clause → ℕ → Bool → List Step → RefutationAnswer
 steps-by rule cs i closed [] = cond closed Yes (NotClosed i)
 steps-by rule cs i closed (s ∷ ss) =
     cond (rule cs i s ss) (steps-by rule (clauses-after cs s) (suc i) (empty (s .clause)) ss) (StepRefused i)
 
 -- What a judge by this rule answers, where the words and the work areas are right.
-abbrev pub answer-by : Rule → Input → Judgement
+abbrev pub answer-by : Rule → Input → RefutationAnswer
 answer-by rule x = steps-by rule (clauses-of (x .cnf)) 0 false (steps-of (x .refutation))
 
 abbrev pub the-rule : Rule
-the-rule cs i s ss = step-accepted cs s
+the-rule cs i s ss = step-accepted (clause-numbered cs) s
 
-answer-cond : (b : Bool) (p q : Judgement) → answer-of (cond b p q) ≡ cond b (answer-of p) (answer-of q)
+answer-cond : (b : Bool) (p q : RefutationAnswer) → answer-of (cond b p q) ≡ cond b (answer-of p) (answer-of q)
 answer-cond true p q = refl
 answer-cond false p q = refl
 
@@ -46,9 +47,9 @@ steps-by-rule : (cs : List Clause) (i total : ℕ) (closed : Bool) (s : Step) (s
     ≡ first-failing (step-checks cs i (s ∷ ss) ++ (check (last-is-empty-after s ss) (not-closed total) ∷ [])) (granted 0)
 steps-by-rule cs i total closed s [] e =
     let t : total ≡ suc i = omega arith in
-    rw (t, answer-cond (step-accepted cs s), answer-cond (empty (s .clause)))
+    rw (t, answer-cond (step-accepted (clause-numbered cs) s), answer-cond (empty (s .clause)))
 steps-by-rule cs i total closed s (t ∷ ts) e =
-    rw (answer-cond (step-accepted cs s), steps-by-rule (clauses-after cs s) (suc i) total (empty (s .clause)) t ts (omega arith))
+    rw (answer-cond (step-accepted (clause-numbered cs) s), steps-by-rule (clauses-after cs s) (suc i) total (empty (s .clause)) t ts (omega arith))
 
 -- By the rule of document 01 the answer is the one laid down, so a wrong rule is all that is wrong below.
 pub the-rule-right : (cs : List Clause) (ss : List Step) → answer-of (steps-by the-rule cs 0 false ss) ≡ judge-steps cs ss
@@ -59,7 +60,7 @@ the-rule-right cs (s ∷ ss) = steps-by-rule cs 0 (length (s ∷ ss)) false s ss
 -- ════════ Only some steps are judged ════════
 
 abbrev pub first-step-only : Rule
-first-step-only cs i s ss = not (eqb i 0) || step-accepted cs s
+first-step-only cs i s ss = not (eqb i 0) || step-accepted (clause-numbered cs) s
 
 -- T's step 0 2 12 5 0, then 0 0: the empty clause again, with no hint. 13 at 1 is right, and this judge says yes.
 abbrev pub second-refused : Input
@@ -83,7 +84,7 @@ unfolding laid-down
 not-closed-for-refused-breaks n = wrong-number second-refused-open (NotClosed n) (λ e. omega arith)
 
 abbrev pub last-step-only : Rule
-last-step-only cs i s ss = not (empty ss) || step-accepted cs s
+last-step-only cs i s ss = not (empty ss) || step-accepted (clause-numbered cs) s
 
 -- 0 12 5 0, which is refused, then 0 2 12 5 0, which passes. 13 at 0 is right, and this judge says yes.
 abbrev pub first-refused : Input
@@ -104,10 +105,11 @@ leaning-on-refused-breaks = wrong-number leans-on-refused Yes (λ e. omega arith
 -- ════════ A wrong rule for the hints ════════
 
 -- Hints taken in order: what a clause gives, what a conflict with these hints after it says, and what no conflict says.
+-- A hint that names no clause never comes here: 11 refuses it.
 abbrev pub hints-by : (List ℤ → Clause → Outcome) → (List ℕ → Bool) → Bool → List Clause → List ℤ → List ℕ → Bool
 hints-by gives at-conflict at-end cs trues [] = at-end
 hints-by gives at-conflict at-end cs trues (h ∷ hs) =
-    elim (gives trues (clause-numbered cs h)) [
+    elim (gives trues (Option·getD (clause-numbered cs h) [])) [
       | conflict ↦ at-conflict hs
       | unit u ↦ hints-by gives at-conflict at-end cs (u ∷ trues) hs
       | neither ↦ false
@@ -175,7 +177,7 @@ skipped-hint-breaks = wrong-number idle-hint Yes (λ e. omega arith)
 -- ════════ Both signs ════════
 
 abbrev pub both-signs-pass : Rule
-both-signs-pass cs i s ss = hints-conflict cs (map negated (s .clause)) (s .hints)
+both-signs-pass cs i s ss = hints-conflict (clause-numbered cs) (map negated (s .clause)) (s .hints)
 
 -- 1 -1 0 1 0, then T's step 0 2 12 5 0: the first step's clause is [1, -1]. 13 at 0 is right, and this judge says yes.
 abbrev pub both-signs-step : Input

@@ -7,11 +7,11 @@ use lib.ListN.{length}
 use Rattle.clauses.proofs.Sound.{refuted-cnf}
 use Rattle.clauses.specs.Clauses.{Assignment, Satisfies}
 use Rattle.clauses.specs.CnfWords.{clauses-of}
-use Rattle.refutation.specs.declared.Judgement.{Judgement}
-use Rattle.refutation.specs.declared.Judgement.the-variants.{Yes}
+use Rattle.refutation.specs.declared.RefutationAnswer.{RefutationAnswer}
+use Rattle.refutation.specs.declared.RefutationAnswer.the-variants.{Yes}
 use Rattle.refutation.specs.Promise.{answer-of, Judged}
 
-pub judged-refuted : {variables : ℕ} {cnf refutation : List ℤ} {numbers clauses : List ℕ} {r : Judgement} {numbers′ clauses′ : List ℕ}
+pub judged-refuted : {variables : ℕ} {cnf refutation : List ℤ} {numbers clauses : List ℕ} {r : RefutationAnswer} {numbers′ clauses′ : List ℕ}
     → Judged variables cnf refutation numbers clauses r numbers′ clauses′ → r ≡ Yes
     → (a : Assignment) → Satisfies a (clauses-of cnf) → ⊥
 judged-refuted {variables} {cnf} {refutation} {numbers} {clauses} j e =

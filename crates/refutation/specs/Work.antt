@@ -10,8 +10,8 @@ use Rattle.clauses.specs.Lists.{all-of}
 use Rattle.clauses.specs.Clauses.{Clause, Within, variable-of, literal-within, among}
 use Rattle.clauses.specs.CnfWords.{clauses-of, cnf-checks}
 use Rattle.clauses.specs.Refutations.{Outcome, conflict, unit, neither, steps-of, refutation-checks}
-use Rattle.refutation.specs.declared.Found.{Found}
-use Rattle.refutation.specs.declared.Found.the-variants.{Conflict, Unit, Neither}
+use Rattle.refutation.specs.declared.values.Found.{Found}
+use Rattle.refutation.specs.declared.values.Found.the-variants.{Conflict, Unit, Neither}
 
 -- ════════ Values by numbers ════════
 

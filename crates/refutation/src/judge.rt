@@ -1,6 +1,6 @@
 // The judge of a refutation of a bare CNF.
-use crate::Counted;
-use crate::Judgement;
+use crate::RefutationAnswer;
+use crate::WordsCounted;
 use crate::places::place_cnf;
 use crate::steps::judge_steps;
 use crate::values::clear;
@@ -24,7 +24,7 @@ fn judge_counted<'a>(
     steps: usize,
     values: &mut [u64],
     places: &mut [u64],
-) -> Judgement
+) -> RefutationAnswer
     requires cnf_right { ⌜ CnfRight variables (now cnf) × (clauses ≡ length (clauses-of (now cnf))) ⌝ }
     requires steps_right { ⌜ StepsRight variables clauses (now refutation) × (steps ≡ length (steps-of (now refutation))) ⌝ }
     requires room { ⌜ (variables < length (now values)) × (clauses + steps ≤ length (now places)) ⌝ }
@@ -48,25 +48,25 @@ pub fn judge<'a>(
     refutation: &'a [i32],
     by_numbers: &mut [u64],
     by_clauses: &mut [u64],
-) -> Judgement
+) -> RefutationAnswer
     ensures { λ r. ⌜ Judged variables (now (cnf .entry)) (now (refutation .entry)) (now («by_numbers» .entry)) (now («by_clauses» .entry)) r (now («by_numbers» .exit)) (now («by_clauses» .exit)) ⌝ }
 {
     let clauses = match count_clauses(variables, cnf) {
-        Counted::Count(n) => n,
-        Counted::BadAt(i) => return Judgement::BadCnf(i),
+        WordsCounted::Count(n) => n,
+        WordsCounted::BadAt(i) => return RefutationAnswer::BadCnf(i),
     };
     let steps = match count_steps(variables, clauses, refutation) {
-        Counted::Count(n) => n,
-        Counted::BadAt(i) => return Judgement::BadRefutation(i),
+        WordsCounted::Count(n) => n,
+        WordsCounted::BadAt(i) => return RefutationAnswer::BadRefutation(i),
     };
     let numbers = variables as usize;
     if by_numbers.len() <= numbers {
         let needed = numbers + 1;
-        return Judgement::AreaTooSmall(needed);
+        return RefutationAnswer::AreaTooSmall(needed);
     }
     let needed = clauses + steps;
     if by_clauses.len() < needed {
-        return Judgement::AreaTooSmall(needed);
+        return RefutationAnswer::AreaTooSmall(needed);
     }
     judge_counted(
         numbers,

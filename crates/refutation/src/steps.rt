@@ -1,9 +1,9 @@
 // Steps: what a hint gives, whether a step is accepted, and all steps one after the other.
-use crate::Found;
-use crate::Judgement;
+use crate::RefutationAnswer;
 use crate::literals::variable;
 use crate::places::clause_at;
 use crate::places::lookup;
+use crate::values::Found;
 use crate::values::find;
 use crate::values::set_false;
 use crate::values::set_true;
@@ -14,7 +14,7 @@ ghost use lib.ListN.{length, drop};
 ghost use lib.IntN.{ℤ};
 ghost use Rattle.clauses.specs.Clauses.{variable-of};
 ghost use Rattle.clauses.specs.CnfWords.{clauses-of};
-ghost use Rattle.clauses.specs.Refutations.{hint-outcome, step, steps-of, step-accepted, judge-steps};
+ghost use Rattle.clauses.specs.Refutations.{clause-numbered, hint-outcome, step, steps-of, step-accepted, judge-steps};
 ghost use Rattle.refutation.specs.Promise.{answer-of};
 ghost use Rattle.refutation.specs.Work.{stamps-limit, LiteralsWithin, Older, Values, Marked, outcome-found, known, Standing, StepsRight};
 
@@ -26,55 +26,59 @@ fn stamp_after(done: usize) -> u64
     done as u64 + 1
 }
 
-// What the hint of a number gives, in the step that comes after so many. The clauses of the CNF have the numbers up to `base`.
-fn hint<'a>(
+// The step that is judged: the variables have the numbers up to `limit`, the clauses of the CNF those up to `base`, and `done` steps
+// come before it.
+struct StepPlace {
     limit: usize,
-    cnf: &'a [i32],
-    words: &'a [i32],
     base: usize,
     done: usize,
+}
+
+// What the hint of a number gives in a step.
+fn hint<'a>(
+    here: StepPlace,
+    cnf: &'a [i32],
+    words: &'a [i32],
     number: usize,
     values: &[u64],
     places: &[u64],
 ) -> Found
-    requires known { ⌜ (1 ≤ number) × (number ≤ base + done) ⌝ }
-    requires standing { ⌜ Standing limit (now cnf) (now words) base done (now places) ⌝ }
-    requires room { ⌜ limit < length (now values) ⌝ }
-    ensures { λ r. ⌜ ((trues : List ℤ) → Values limit (suc done) trues (now (values .entry)) → outcome-found r ≡ hint-outcome (known (now (cnf .entry)) (now (words .entry)) done) trues number) ⌝ }
+    requires known { ⌜ (1 ≤ number) × (number ≤ here .base + here .done) ⌝ }
+    requires standing { ⌜ Standing (here .limit) (now cnf) (now words) (here .base) (here .done) (now places) ⌝ }
+    requires room { ⌜ here .limit < length (now values) ⌝ }
+    ensures { λ r. ⌜ ((trues : List ℤ) → Values (here .limit) (suc (here .done)) trues (now (values .entry)) → outcome-found r ≡ hint-outcome (clause-numbered (known (now (cnf .entry)) (now (words .entry)) (here .done))) trues number) ⌝ }
 {
-    let clause = lookup(cnf, words, base, number, places);
-    find(limit, stamp_after(done), clause, values)
+    let clause = lookup(cnf, words, here.base, number, places);
+    find(here.limit, stamp_after(here.done), clause, values)
 }
 
-// Whether a step is accepted, the one that comes after so many.
+// Whether a step is accepted.
 fn accepted<'a>(
-    limit: usize,
+    here: StepPlace,
     cnf: &'a [i32],
     words: &'a [i32],
-    base: usize,
-    done: usize,
     clause: &[i32],
     hints: &[i32],
     values: &mut [u64],
     places: &[u64],
 ) -> bool
-    requires standing { ⌜ Standing limit (now cnf) (now words) base done (now places) ⌝ }
-    requires older { ⌜ Older limit (suc done) (now values) ⌝ }
-    requires right { ⌜ LiteralsWithin limit (now clause) × LiteralsWithin (base + done) (now hints) ⌝ }
-    ensures answer { λ r. ⌜ r ≡ step-accepted (known (now (cnf .entry)) (now (words .entry)) done) (step (now (clause .entry)) (map variable-of (now (hints .entry)))) ⌝ }
-    ensures marked { λ r. ⌜ Marked limit (suc done) (now (values .entry)) (now (values .exit)) ⌝ }
+    requires standing { ⌜ Standing (here .limit) (now cnf) (now words) (here .base) (here .done) (now places) ⌝ }
+    requires older { ⌜ Older (here .limit) (suc (here .done)) (now values) ⌝ }
+    requires right { ⌜ LiteralsWithin (here .limit) (now clause) × LiteralsWithin (here .base + here .done) (now hints) ⌝ }
+    ensures answer { λ r. ⌜ r ≡ step-accepted (clause-numbered (known (now (cnf .entry)) (now (words .entry)) (here .done))) (step (now (clause .entry)) (map variable-of (now (hints .entry)))) ⌝ }
+    ensures marked { λ r. ⌜ Marked (here .limit) (suc (here .done)) (now (values .entry)) (now (values .exit)) ⌝ }
 {
-    let stamp = stamp_after(done);
-    if !set_false(limit, stamp, clause, values) {
+    let stamp = stamp_after(here.done);
+    if !set_false(here.limit, stamp, clause, values) {
         return false;
     }
     let mut i = 0;
     while i < hints.len() {
         let number = variable(hints[i]);
         i += 1;
-        match hint(limit, cnf, words, base, done, number, values, places) {
+        match hint(here, cnf, words, number, values, places) {
             Found::Conflict => return i == hints.len(),
-            Found::Unit(w) => set_true(limit, stamp, w, values),
+            Found::Unit(w) => set_true(here.limit, stamp, w, values),
             Found::Neither => return false,
         }
     }
@@ -89,7 +93,7 @@ pub(crate) fn judge_steps<'a>(
     base: usize,
     values: &mut [u64],
     places: &mut [u64],
-) -> Judgement
+) -> RefutationAnswer
     requires right { ⌜ StepsRight limit base (now words) ⌝ }
     requires standing { ⌜ Standing limit (now cnf) (now words) base 0 (now places) ⌝ }
     requires older { ⌜ Older limit 1 (now values) ⌝ }
@@ -105,8 +109,9 @@ pub(crate) fn judge_steps<'a>(
         let clause = clause_at(words, at);
         let from = at + clause.len() + 1;
         let hints = clause_at(words, from);
-        if !accepted(limit, cnf, words, base, done, clause, hints, values, places) {
-            return Judgement::StepRefused(done);
+        let here = StepPlace { limit, base, done };
+        if !accepted(here, cnf, words, clause, hints, values, places) {
+            return RefutationAnswer::StepRefused(done);
         }
         places[base + done] = at as u64;
         done += 1;
@@ -114,8 +119,8 @@ pub(crate) fn judge_steps<'a>(
         at = from + hints.len() + 1;
     }
     if closed {
-        Judgement::Yes
+        RefutationAnswer::Yes
     } else {
-        Judgement::NotClosed(done)
+        RefutationAnswer::NotClosed(done)
     }
 }

@@ -1,5 +1,4 @@
 // The values of variables while one step is judged. A value is a stamp of its step with a sign, so that nothing is cleared between steps.
-use crate::Found;
 use crate::literals::variable;
 ghost use mathlib.Core.Path.{_≡_};
 ghost use mathlib.Core.Bool.{true, false, not};
@@ -12,6 +11,13 @@ ghost use Rattle.clauses.specs.Lists.{written};
 ghost use Rattle.clauses.specs.Clauses.{negated, variable-of, among};
 ghost use Rattle.clauses.specs.Refutations.{both-signs, outcome};
 ghost use Rattle.refutation.specs.Work.{stamps-limit, mark-of, cell, LiteralsWithin, Older, Values, Marked, outcome-found};
+
+// What a hint's clause gives under the values so far.
+pub(crate) enum Found {
+    Conflict,
+    Unit(i32),
+    Neither,
+}
 
 // What the word of the literal's variable holds where the literal is true at the stamp.
 fn mark(stamp: u64, w: i32) -> u64

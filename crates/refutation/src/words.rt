@@ -1,5 +1,5 @@
 // The words of a CNF and of a refutation, checked and counted.
-use crate::Counted;
+use crate::WordsCounted;
 use crate::literals::variable;
 ghost use mathlib.Core.Bool.{cond};
 ghost use mathlib.Core.Path.{_≡_};
@@ -11,11 +11,11 @@ ghost use Rattle.refutation.specs.Promise.{CnfCounted, StepsCounted};
 const VARIABLES_LIMIT: u32 = 65535;
 
 // 16: V, then the words in order, then cut short; else the number of clauses.
-pub(crate) fn count_clauses(variables: u32, cnf: &[i32]) -> Counted
+pub(crate) fn count_clauses(variables: u32, cnf: &[i32]) -> WordsCounted
     ensures { λ r. ⌜ CnfCounted variables (now (cnf .entry)) r ⌝ }
 {
     if VARIABLES_LIMIT < variables {
-        return Counted::BadAt(0);
+        return WordsCounted::BadAt(0);
     }
     let limit = variables as usize;
     let mut clauses = 0;
@@ -24,7 +24,7 @@ pub(crate) fn count_clauses(variables: u32, cnf: &[i32]) -> Counted
     while i < cnf.len() {
         let w = cnf[i];
         if limit < variable(w) {
-            return Counted::BadAt(i);
+            return WordsCounted::BadAt(i);
         }
         if w == 0 {
             clauses += 1;
@@ -35,9 +35,9 @@ pub(crate) fn count_clauses(variables: u32, cnf: &[i32]) -> Counted
         i += 1;
     }
     if open {
-        return Counted::BadAt(i);
+        return WordsCounted::BadAt(i);
     }
-    Counted::Count(clauses)
+    WordsCounted::Count(clauses)
 }
 
 // A hint is an earlier clause: at least 1, and at most the clauses and the steps before its own.
@@ -68,7 +68,7 @@ fn word_right(limit: usize, clauses: usize, steps: usize, hinting: bool, w: i32)
 }
 
 // 11: the first bad word, then cut short; else the number of steps.
-pub fn count_steps(variables: u32, clauses: usize, refutation: &[i32]) -> Counted
+pub fn count_steps(variables: u32, clauses: usize, refutation: &[i32]) -> WordsCounted
     ensures { λ r. ⌜ StepsCounted variables clauses (now (refutation .entry)) r ⌝ }
 {
     let limit = variables as usize;
@@ -79,7 +79,7 @@ pub fn count_steps(variables: u32, clauses: usize, refutation: &[i32]) -> Counte
     while i < refutation.len() {
         let w = refutation[i];
         if !word_right(limit, clauses, steps, hints, w) {
-            return Counted::BadAt(i);
+            return WordsCounted::BadAt(i);
         }
         if w == 0 {
             if hints {
@@ -93,7 +93,7 @@ pub fn count_steps(variables: u32, clauses: usize, refutation: &[i32]) -> Counte
         i += 1;
     }
     if open {
-        return Counted::BadAt(i);
+        return WordsCounted::BadAt(i);
     }
-    Counted::Count(steps)
+    WordsCounted::Count(steps)
 }

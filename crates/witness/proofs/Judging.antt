@@ -1,4 +1,4 @@
--- One part of the judge after another, up to the whole judgement. Assumes nothing.
+-- One part of the judge after another, up to the whole answer. Assumes nothing.
 use mathlib.Core.Path.{_≡_, refl, sym, _∙_, ap}
 use mathlib.Core.Bool.{Bool, true, false}
 use mathlib.Core.List.{List, [], _∷_, _++_}
@@ -14,62 +14,60 @@ use Rattle.clauses.specs.Answers.{Answer, Check, first-failing, granted}
 use Rattle.clauses.proofs.Satisfaction.{first-true, second-true}
 use Rattle.clauses.proofs.Answers.{passing, first-failing-append, place-of}
 use Rattle.meaning.specs.Problem.{Problem, problem}
-use Rattle.meaning.specs.Check.{WellFormed}
 use Rattle.meaning.specs.Witnesses.{witness-length, byte, byte-checks, reset-checks, loop-checks, formula-check, shape, judge-bytes, judge-run, judge-formula}
 use Rattle.meaning.specs.Calls.{judge-witness}
-use Rattle.meaning.proofs.Check.{first-failing-refused, checked-if-well-formed, check-yes, proper-if-well-formed}
-use Rattle.problem.specs.declared.Sizes.{Sizes}
+use Rattle.meaning.proofs.Check.{first-failing-refused, checked-if-well-formed}
+use Rattle.problem.specs.declared.Outline.{Outline}
 use Rattle.problem.specs.declared.Refusal.{Refusal}
 use Rattle.problem.specs.declared.Checked.the-variants.{Good, Refused}
-use Rattle.problem.specs.Promise.{CheckedAs, refusal-answer}
-use Rattle.problem.proofs.Whole.{refused-whatever}
-use Rattle.witness.specs.declared.Judgement.{Judgement}
-use Rattle.witness.specs.declared.Judgement.the-variants as Judged
-use Rattle.witness.specs.Tables.{Ready}
+use Rattle.problem.specs.Promise.{problem-in, CheckedAs, refusal-answer}
+use Rattle.problem.proofs.Formed.{well-formed-if-good, refused-whatever}
+use Rattle.witness.specs.declared.WitnessAnswer.{WitnessAnswer}
+use Rattle.witness.specs.declared.WitnessAnswer.the-variants as answers
 use Rattle.witness.specs.Promise.{answer-then, answer-of, AnsweredBy, byte-check}
-use Rattle.witness.proofs.Judgement.{the-type}
+use Rattle.witness.proofs.WitnessAnswer.{the-type}
 
 -- ════════ A yes or a refusal ════════
 
 -- What comes after a refusal does not matter.
-abbrev pub Refuses : Judgement → Type 0
+abbrev pub Refuses : WitnessAnswer → Type 0
 Refuses r = (a b : Answer) → answer-then r a ≡ answer-then r b
 
 -- The code goes by the number of the variant, of which 0 is the yes.
-pub yes-if-first : (r : Judgement) → tagOf the-type r ≡ 0 → r ≡ Judged.Yes
-yes-if-first Judged.Yes e = refl
-yes-if-first (Judged.Problem f) e = absurd (omega arith)
-yes-if-first (Judged.BadWitness i) e = absurd (omega arith)
-yes-if-first (Judged.AgainstReset i) e = absurd (omega arith)
-yes-if-first (Judged.OpenLoop i) e = absurd (omega arith)
-yes-if-first Judged.FormulaFalse e = absurd (omega arith)
+pub yes-if-first : (r : WitnessAnswer) → tagOf the-type r ≡ 0 → r ≡ answers.Yes
+yes-if-first answers.Yes e = refl
+yes-if-first (answers.Problem f) e = absurd (omega arith)
+yes-if-first (answers.BadWitness i) e = absurd (omega arith)
+yes-if-first (answers.AgainstReset i) e = absurd (omega arith)
+yes-if-first (answers.OpenLoop i) e = absurd (omega arith)
+yes-if-first answers.FormulaFalse e = absurd (omega arith)
 
 abbrev pub refusals : List ℕ
 refusals = 1 ∷ 2 ∷ 3 ∷ 4 ∷ 5 ∷ []
 
-pub refuses-if-later : (r : Judgement) → OneOf refusals (tagOf the-type r) → Refuses r
-refuses-if-later Judged.Yes later = absurd (miss refusals 0 tt later)
-refuses-if-later (Judged.Problem f) later = λ a b. refl
-refuses-if-later (Judged.BadWitness i) later = λ a b. refl
-refuses-if-later (Judged.AgainstReset i) later = λ a b. refl
-refuses-if-later (Judged.OpenLoop i) later = λ a b. refl
-refuses-if-later Judged.FormulaFalse later = λ a b. refl
+pub refuses-if-later : (r : WitnessAnswer) → OneOf refusals (tagOf the-type r) → Refuses r
+refuses-if-later answers.Yes later = absurd (miss refusals 0 tt later)
+refuses-if-later (answers.Problem f) later = λ a b. refl
+refuses-if-later (answers.BadWitness i) later = λ a b. refl
+refuses-if-later (answers.AgainstReset i) later = λ a b. refl
+refuses-if-later (answers.OpenLoop i) later = λ a b. refl
+refuses-if-later answers.FormulaFalse later = λ a b. refl
 
 -- ════════ One part after another ════════
 
-module _ (xs ys : List Check) {r : Judgement} where
+module _ (xs ys : List Check) {r : WitnessAnswer} where
   pub refused-first : Refuses r → AnsweredBy xs r → AnsweredBy (xs ++ ys) r
   refused-first refused a = record {
     answered = λ after. refused after (first-failing ys after) ∙ a .answered (first-failing ys after) ∙ sym (first-failing-append xs ys after);
   }
 
-  pub yes-first : {y : Judgement} → y ≡ Judged.Yes → AnsweredBy xs y → AnsweredBy ys r → AnsweredBy (xs ++ ys) r
+  pub yes-first : {y : WitnessAnswer} → y ≡ answers.Yes → AnsweredBy xs y → AnsweredBy ys r → AnsweredBy (xs ++ ys) r
   yes-first is a b = record {
     answered = λ after. b .answered after ∙ (rw is at (a .answered (first-failing ys after))) ∙ sym (first-failing-append xs ys after);
   }
 
 -- Checks that leave the answer to what comes after all pass.
-all-pass : (cs : List Check) {y : Judgement} → y ≡ Judged.Yes → AnsweredBy cs y → all-of passing cs ≡ true
+all-pass : (cs : List Check) {y : WitnessAnswer} → y ≡ answers.Yes → AnsweredBy cs y → all-of passing cs ≡ true
 all-pass cs is a = go (all-of passing cs) refl
   where
     go : (b : Bool) → all-of passing cs ≡ b → b ≡ true
@@ -83,7 +81,7 @@ all-pass cs is a = go (all-of passing cs) refl
 -- ════════ What 7 leaves ════════
 
 -- The length, and the first byte.
-pub length-right : (p : Problem) (bs : List ℕ) {y : Judgement} → y ≡ Judged.Yes → AnsweredBy (byte-checks p bs) y → length bs ≡ witness-length p
+pub length-right : (p : Problem) (bs : List ℕ) {y : WitnessAnswer} → y ≡ answers.Yes → AnsweredBy (byte-checks p bs) y → length bs ≡ witness-length p
 length-right p bs is a =
     eqb-true _ _ (first-true (eqb (length bs) (witness-length p)) (all-of passing (numbered 0 bs (byte-check p))) (all-pass (byte-checks p bs) is a))
 
@@ -91,7 +89,7 @@ first-within : (p : Problem) (bs : List ℕ) → all-of passing (numbered 0 bs (
 first-within p [] e = omega arith
 first-within p (b ∷ bs) e = leb-true _ _ (first-true (leb b (p .bound + 1)) (all-of passing (numbered 1 bs (byte-check p))) e)
 
-pub start-right : (p : Problem) (bs : List ℕ) {y : Judgement} → y ≡ Judged.Yes → AnsweredBy (byte-checks p bs) y → byte bs 0 ≤ p .bound + 1
+pub start-right : (p : Problem) (bs : List ℕ) {y : WitnessAnswer} → y ≡ answers.Yes → AnsweredBy (byte-checks p bs) y → byte bs 0 ≤ p .bound + 1
 start-right p bs is a =
     first-within p bs
     (second-true (eqb (length bs) (witness-length p)) (all-of passing (numbered 0 bs (byte-check p))) (all-pass (byte-checks p bs) is a))
@@ -105,7 +103,7 @@ from-loop p bs = loop-checks p bs (shape bs) ++ (formula-check p bs ∷ [])
 abbrev pub from-resets : Problem → List ℕ → List Check
 from-resets p bs = reset-checks p bs ++ from-loop p bs
 
-pub judged : (p : Problem) (bs : List ℕ) {r : Judgement} → AnsweredBy (byte-checks p bs ++ from-resets p bs) r → answer-of r ≡ judge-bytes p bs
+pub judged : (p : Problem) (bs : List ℕ) {r : WitnessAnswer} → AnsweredBy (byte-checks p bs ++ from-resets p bs) r → answer-of r ≡ judge-bytes p bs
 unfolding judge-bytes judge-run judge-formula
 judged p bs a =
     let formula : Answer = first-failing (formula-check p bs ∷ []) (granted 0) in
@@ -117,17 +115,11 @@ judged p bs a =
     ∙ sym (first-failing-append (reset-checks p bs) (loop-checks p bs (shape bs)) formula))
 
 module _ {version : ℕ} {ws : List ℕ} where
-  -- A good problem is ready, and its check leaves the answer to the witness.
-  module _ {s : Sizes} (c : CheckedAs version ws (Good s)) where
-    well-formed : WellFormed version ws
-    well-formed = check-yes version ws .0 (sym (c .answered))
-
-    pub ready-if-good : Ready ws s
-    ready-if-good = record { sizes-are = c .sized; proper = proper-if-well-formed version ws well-formed }
-
-    pub good-judged : (bs : List ℕ) → judge-bytes (problem ws) bs ≡ judge-witness version ws bs
-    unfolding judge-witness
-    good-judged bs = sym (checked-if-well-formed version ws (judge-bytes (problem ws) bs) well-formed)
+  -- The check of a good problem leaves the answer to the witness.
+  pub good-judged : {s : Outline} → CheckedAs version ws (Good s) → (bs : List ℕ) → judge-bytes (problem-in s ws) bs ≡ judge-witness version ws bs
+  unfolding judge-witness
+  good-judged c bs =
+      rw (c .outlined .problem-is) (sym (checked-if-well-formed version ws (judge-bytes (problem version ws) bs) (well-formed-if-good c)))
 
   -- A refused problem's answer does not depend on the witness.
   pub refused-judged : {f : Refusal} → CheckedAs version ws (Refused f) → (bs : List ℕ) → refusal-answer f ≡ judge-witness version ws bs

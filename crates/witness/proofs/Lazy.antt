@@ -1,47 +1,47 @@
 -- Judges of a witness that are lazy or wrong do not meet the promise: for each an input, and what it answers there. Assumes nothing.
-use mathlib.Core.Path.{_≡_, refl, sym, _∙_, ap}
+use mathlib.Core.Path.{_≡_, refl, sym, _∙_}
 use mathlib.Core.List.{List, [], _∷_}
 use Prim.Native.Nat.{ℕ}
 use native.Mathlib.Omega.{arith}
 use Rattle.clauses.specs.Answers.{Answer}
 use Rattle.clauses.proofs.Answers.{number-of, place-of}
 use Rattle.meaning.specs.Limits.{inputs-limit, latches-limit, gates-limit, nodes-limit, bound-limit}
-use Rattle.meaning.specs.Problem.{problem}
-use Rattle.meaning.specs.Check.{known-version, part-checks, parts-checked, problem-checked}
+use Rattle.meaning.specs.Problem.{header-words, problem-by, problem}
+use Rattle.meaning.specs.Check.{problem-checked}
 use Rattle.meaning.specs.Runs.{values, next-values}
 use Rattle.meaning.specs.Formulas.{formula}
 use Rattle.meaning.specs.Witnesses.{run, judge-formula, judge-run, judge-bytes}
 use Rattle.meaning.specs.Calls.{judge-witness}
 use Rattle.meaning.specs.Cases.{T-words, H}
 use Rattle.problem.specs.declared.Refusal.the-variants.{BadVersion, BadReset}
-use Rattle.witness.specs.declared.Judgement.{Judgement}
-use Rattle.witness.specs.declared.Judgement.the-variants.{Yes, Problem, BadWitness, AgainstReset, OpenLoop, FormulaFalse}
+use Rattle.witness.specs.declared.WitnessAnswer.{WitnessAnswer}
+use Rattle.witness.specs.declared.WitnessAnswer.the-variants.{Yes, Problem, BadWitness, AgainstReset, OpenLoop, FormulaFalse}
 use Rattle.witness.specs.Promise.{answer-of}
 use Rattle.witness.proofs.Unique.{judgement-unique}
 
 -- ════════ What it is to break the promise ════════
 
--- An input, and the judgement that meets the judge's promise for it; each theorem below computes that it does.
+-- An input, and the answer that meets the judge's promise for it; each theorem below computes that it does.
 pub record Input : Type 0 where
   pub version : ℕ
   pub words : List ℕ
   pub bytes : List ℕ
-  pub right : Judgement
+  pub right : WitnessAnswer
 
 -- The answer that document 01 lays down.
 unfoldable pub laid-down : Input → Answer
-unfolding known-version inputs-limit latches-limit gates-limit nodes-limit bound-limit part-checks parts-checked problem-checked judge-witness problem values next-values formula run judge-formula judge-run judge-bytes
+unfolding header-words inputs-limit latches-limit gates-limit nodes-limit bound-limit problem-checked judge-witness problem-by problem values next-values formula run judge-formula judge-run judge-bytes
 laid-down x = judge-witness (x .version) (x .words) (x .bytes)
 
--- This judgement meets the promise for the input, or does not.
-abbrev pub Meets : Input → Judgement → Type 0
+-- This answer meets the promise for the input, or does not.
+abbrev pub Meets : Input → WitnessAnswer → Type 0
 Meets x r = answer-of r ≡ judge-witness (x .version) (x .words) (x .bytes)
 
-abbrev pub Wrong : Input → Judgement → Type 0
+abbrev pub Wrong : Input → WitnessAnswer → Type 0
 Wrong x r = ¬ (Meets x r)
 
--- Whatever is not the right judgement is wrong; so is another number, and another place.
-module _ (x : Input) (r : Judgement) (meets : Meets x (x .right)) where
+-- Whatever is not the right answer is wrong; so is another number, and another place.
+module _ (x : Input) (r : WitnessAnswer) (meets : Meets x (x .right)) where
   pub other : ¬ (r ≡ x .right) → Wrong x r
   other h e = h (judgement-unique (x .version) (x .words) (x .bytes) r (x .right) e meets)
 
@@ -51,8 +51,8 @@ module _ (x : Input) (r : Judgement) (meets : Meets x (x .right)) where
   pub other-place : ¬ (answer-of r .place ≡ answer-of (x .right) .place) → Wrong x r
   other-place h e = h (place-of (e ∙ sym meets))
 
--- Words and bytes under the known version, and the right judgement.
-abbrev pub over : List ℕ → List ℕ → Judgement → Input
+-- Words and bytes under the known version, and the right answer.
+abbrev pub over : List ℕ → List ℕ → WitnessAnswer → Input
 over words bytes r = record { version = 1; words = words; bytes = bytes; right = r }
 
 -- ════════ Refuses all, says 10 always ════════
@@ -65,7 +65,7 @@ H-finally = H 2 3 (0 ∷ 12 ∷ 0 ∷ 4 ∷ 0 ∷ 0 ∷ [])
 abbrev pub H-lasso : Input
 H-lasso = over H-finally (1 ∷ 0 ∷ 0 ∷ []) Yes
 
-pub refuses-all-breaks : (r : Judgement) → ¬ (r ≡ Yes) → Wrong H-lasso r
+pub refuses-all-breaks : (r : WitnessAnswer) → ¬ (r ≡ Yes) → Wrong H-lasso r
 unfolding laid-down
 refuses-all-breaks r = other H-lasso r refl
 
@@ -77,7 +77,7 @@ says-10-always-breaks = other-number H-lasso FormulaFalse refl (λ e. omega arit
 abbrev pub H-prefix : Input
 H-prefix = over H-finally (0 ∷ 0 ∷ 0 ∷ []) Yes
 
-pub refuses-all-prefixes-breaks : (r : Judgement) → ¬ (r ≡ Yes) → Wrong H-prefix r
+pub refuses-all-prefixes-breaks : (r : WitnessAnswer) → ¬ (r ≡ Yes) → Wrong H-prefix r
 unfolding laid-down
 refuses-all-prefixes-breaks r = other H-prefix r refl
 
@@ -227,10 +227,10 @@ pub witness-before-problem-breaks : (i : ℕ) → Wrong T-bad (BadWitness i)
 unfolding laid-down
 witness-before-problem-breaks i = other-number T-bad (BadWitness i) refl (λ e. omega arith)
 
--- T, told as version 2, with no bytes
+-- T, told as version 9, with no bytes
 abbrev pub T-other-version : Input
-T-other-version = record { version = 2; words = T-words; bytes = []; right = Problem BadVersion }
+T-other-version = record { version = 9; words = T-words; bytes = []; right = Problem BadVersion }
 
-pub version-not-first-breaks : (r : Judgement) → ¬ (r ≡ Problem BadVersion) → Wrong T-other-version r
+pub version-not-first-breaks : (r : WitnessAnswer) → ¬ (r ≡ Problem BadVersion) → Wrong T-other-version r
 unfolding laid-down
 version-not-first-breaks r = other T-other-version r refl

@@ -4,7 +4,7 @@ use mathlib.Core.List.{List, [], _∷_}
 use Prim.Native.Nat.{ℕ}
 use native.Mathlib.Omega.{arith}
 use Rattle.meaning.specs.Cases.{H, one-input, one-free-latch}
-use Rattle.witness.specs.declared.Judgement.the-variants.{Yes, AgainstReset, OpenLoop, FormulaFalse}
+use Rattle.witness.specs.declared.WitnessAnswer.the-variants.{Yes, AgainstReset, OpenLoop, FormulaFalse}
 use Rattle.witness.proofs.Lazy.{Input, laid-down, Wrong, other-number, over}
 
 -- ════════ Inputs asked to match round the loop ════════

@@ -1,14 +1,14 @@
--- What the functions' proofs share, that the promise decides the judgement, and that wrong versions break it.
-pub mod Sizing
-pub mod Values
+-- What the functions' proofs share, that the promise decides the answer, and that wrong versions break it.
 pub mod Copies
+pub mod RowGates
 pub mod RowLaws
-pub mod Lending
-pub mod Laws
-pub mod NodeReading
+pub mod RowParts
+pub mod NodeTable
 pub mod Passes
-pub mod Tables
-pub mod Checking
+pub mod NodeValues
+pub mod FormulaValue
+pub mod Checks
+pub mod ShownRun
 pub mod Judging
 pub mod Unique
 pub mod Lazy

@@ -15,8 +15,8 @@ use Rattle.meaning.specs.Problem.{Node}
 use Rattle.pairing.specs.NodeLaws.{at-next}
 use Rattle.pairing.proofs.NextValues.{at-next-stays}
 use Rattle.witness.specs.declared.nodes.Span.{Span}
-use Rattle.witness.specs.Tables.{positions-limit, at-node, op-in, PassReady, Passed}
-use Rattle.witness.proofs.Tables.{stored, stored-there, stored-row, stored-after, Agree, position-within, op-agrees}
+use Rattle.witness.specs.Tables.{positions-limit, at-node, op-in, PassReady, PassWrote}
+use Rattle.witness.proofs.NodeTable.{stored, stored-there, stored-row, stored-after, Agree, position-within, op-agrees}
 
 -- Where the rows other than m are the same, the rows below n are.
 pub agree-elsewhere : (n m : ℕ) (t u : List Bool) → n < nodes-limit → (m ≡ n) ⊎ (m ≡ nodes-limit + n)
@@ -65,7 +65,7 @@ module _ {span : Span} {rows : List Bool} {m : ℕ} {x : Node} {end : Bool} {t :
     next-is = rw (lt-leb _ _ (lt-add-one (span .last)));
   }
 
-  pub passed : {u : List Bool} {y : Bool} → Passing span rows m x end t u y 0 → Passed span rows m x end t u
+  pub passed : {u : List Bool} {y : Bool} → Passing span rows m x end t u y 0 → PassWrote span rows m x end t u
   passed all = record { others = all .others; own = λ i h. all .own i (omega arith) h }
 
   pub passing-at : {u : List Bool} {y : Bool} {i j : ℕ} → i ≡ j → Passing span rows m x end t u y i → Passing span rows m x end t u y j

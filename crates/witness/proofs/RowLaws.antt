@@ -52,10 +52,6 @@ row-kept t n table table′ h e =
 pub length-next-in : (p : Problem) (row : List Bool) → length (next-in p row) ≡ length (p .latches)
 length-next-in p row = length-map (p .latches) (λ (c : Latch). literal-value row (c .next))
 
-pub next-in-at : (p : Problem) (row : List Bool) (i : ℕ) → i < length (p .latches)
-    → getD (next-in p row) i false ≡ literal-value row (latch p i .next)
-next-in-at = next-by-row
-
 -- ════════ Rows that are right ════════
 
 pub wide-enough : {p : Problem} → Proper p → W p + 1 ≤ row-width
@@ -83,7 +79,7 @@ module _ {p : Problem} {bs : List ℕ} {n : ℕ} {table : List Bool} (right : Ro
     pub next-value-in : (i : ℕ) → i < length (p .latches)
         → literal-value (row-in table t) (latch p i .next) ≡ getD (next-values p (position p bs t)) i false
     unfolding next-values
-    next-value-in i q = literal-in-row h (latch p i .next) (proper .next-in-range i q) ∙ sym (next-in-at p (rows p bs t) i q)
+    next-value-in i q = literal-in-row h (latch p i .next) (proper .next-in-range i q) ∙ sym (next-by-row p (rows p bs t) i q)
 
     -- The next values by the row are those at the position.
     pub next-are : next-in p (row-in table t) ≡ next-values p (position p bs t)
@@ -91,7 +87,7 @@ module _ {p : Problem} {bs : List ℕ} {n : ℕ} {table : List Bool} (right : Ro
     next-are =
         ext-getD false (next-in p (row-in table t)) (next-in p (rows p bs t))
         (length-next-in p (row-in table t) ∙ sym (length-next-in p (rows p bs t)))
-        (λ i q. let q′ : i < length (p .latches) = rw length-next-in at q in next-in-at p (row-in table t) i q′ ∙ next-value-in i q′)
+        (λ i q. let q′ : i < length (p .latches) = rw length-next-in at q in next-by-row p (row-in table t) i q′ ∙ next-value-in i q′)
 
   -- One row more.
   pub one-more-row : Proper p → {table′ : List Bool} → length table′ ≡ length table → n ≤ bound-limit

@@ -6,25 +6,17 @@ use mathlib.Core.Path.{_≡_}
 use Prim.Native.Nat.{ℕ, suc, _+_, _*_, _<_, _≤_}
 use lib.ListN.{length, getD, take, drop}
 use Rattle.meaning.specs.Limits.{inputs-limit, latches-limit, gates-limit, nodes-limit, bound-limit}
-use Rattle.meaning.specs.Problem.{Problem, Latch, W, problem, Node, node, atom, both, either, next, until, release}
-use Rattle.meaning.specs.Check.{Proper, NodeProper}
+use Rattle.meaning.specs.Problem.{Problem, Latch, W, Node, node}
+use Rattle.meaning.specs.Check.{NodeProper}
 use Rattle.meaning.specs.Runs.{literal-value}
 use Rattle.meaning.specs.Bounded.{Shape, prefix, lasso}
 use Rattle.meaning.specs.Witnesses.{witness-length, byte, rows}
-use Rattle.problem.specs.declared.Sizes.{Sizes}
-use Rattle.problem.specs.Promise.{sizes-of}
+use Rattle.problem.specs.declared.Outline.{Outline}
+use Rattle.problem.specs.Promise.{problem-in, ProperIn}
 use Rattle.pairing.specs.NodeLaws.{at-next, op-value, Q-end, E-value}
 use Rattle.witness.specs.declared.nodes.Span.{Span}
 
--- The words are a good problem's, and these are its sizes.
-pub record Ready (ws : List ℕ) (s : Sizes) : Type 0 where
-  pub sizes-are : s ≡ sizes-of ws
-  pub proper : Proper (problem ws)
-
--- These are the sizes of some good problem.
-pub record GoodSizes (s : Sizes) : Type 0 where
-  pub words : List ℕ
-  pub ready : Ready words s
+-- ════════ The table of rows ════════
 
 -- A row has a value for each of the variables 0..W, whatever W is.
 unfoldable pub row-width : ℕ
@@ -42,9 +34,9 @@ row-in table t = take row-width (drop (t * row-width) table)
 abbrev pub given-width : Problem → ℕ
 given-width p = 1 + p .inputs + length (p .latches)
 
--- Where the latches of a position begin in a table of rows.
-abbrev pub latches-from : Problem → ℕ → ℕ
-latches-from p t = t * row-width + (1 + p .inputs)
+-- Where the latches of a position's row begin in the table.
+abbrev pub row-latches-from : Problem → ℕ → ℕ
+row-latches-from p t = t * row-width + (1 + p .inputs)
 
 -- The latches' next values by a row.
 abbrev pub next-in : Problem → List Bool → List Bool
@@ -55,19 +47,27 @@ pub record RowsRight (p : Problem) (bs : List ℕ) (n : ℕ) (table : List Bool)
   pub room : length table ≡ rows-room
   pub right : (t : ℕ) → t < n → take (W p + 1) (row-in table t) ≡ rows p bs t
 
--- The words, the witness and the table at the position t: the rows before it are there, and the witness has its length.
-pub record Lent (ws : List ℕ) (s : Sizes) (bs : List ℕ) (t : ℕ) (table : List Bool) : Type 0 where
-  pub ready : Ready ws s
-  pub long : length bs ≡ witness-length (problem ws)
-  pub within : t ≤ s .bound
-  pub right : RowsRight (problem ws) bs t table
+-- The witness has the bytes of position t, and the table has room for its row.
+pub record RowRoom (s : Outline) (bs : List ℕ) (t : ℕ) (table : List Bool) : Type 0 where
+  pub given-narrow : 1 + s .inputs + s .latches ≤ row-width
+  pub bytes-there : 1 + s .latches + s .inputs * t + s .inputs ≤ length bs
+  pub row-there : t * row-width + row-width ≤ length table
 
--- The words, and a witness whose length and first byte are right, with the table of its run.
-pub record Shown (ws : List ℕ) (s : Sizes) (bs : List ℕ) (table : List Bool) : Type 0 where
-  pub ready : Ready ws s
-  pub long : length bs ≡ witness-length (problem ws)
+-- The row of position t is next: those before it are there, and the witness has its length.
+pub record RowReady (s : Outline) (ws bs : List ℕ) (t : ℕ) (table : List Bool) : Type 0 where
+  pub good : ProperIn s ws
+  pub long : length bs ≡ witness-length (problem-in s ws)
+  pub within : t ≤ s .bound
+  pub right : RowsRight (problem-in s ws) bs t table
+
+-- A witness whose length and first byte are right, with the table of its run.
+pub record RunShown (s : Outline) (ws bs : List ℕ) (table : List Bool) : Type 0 where
+  pub good : ProperIn s ws
+  pub long : length bs ≡ witness-length (problem-in s ws)
   pub start-within : byte bs 0 ≤ s .bound + 1
-  pub right : RowsRight (problem ws) bs (s .bound + 1) table
+  pub right : RowsRight (problem-in s ws) bs (s .bound + 1) table
+
+-- ════════ The nodes' table ════════
 
 -- A table of a value for each node and position.
 unfoldable pub positions-limit : ℕ
@@ -75,8 +75,6 @@ positions-limit = suc bound-limit
 
 abbrev pub at-node : List Bool → ℕ → ℕ → Bool
 at-node table n i = getD table (n * positions-limit + i) false
-
--- ════════ The nodes' table ════════
 
 -- A run's shape.
 abbrev pub shape-given : Bool → ℕ → Shape
@@ -125,7 +123,7 @@ pub record PassReady (span : Span) (rows : List Bool) (m : ℕ) (x : Node) (t : 
   pub proper : NodeProper p n x
 
 -- A pass gives row m the op's value at each position, over the next one or past the last the end; it changes nothing else.
-pub record Passed (span : Span) (rows : List Bool) (m : ℕ) (x : Node) (end : Bool) (t t′ : List Bool) : Type 0 where
+pub record PassWrote (span : Span) (rows : List Bool) (m : ℕ) (x : Node) (end : Bool) (t t′ : List Bool) : Type 0 where
   pub others : (c i : ℕ) → i < positions-limit → (c ≡ m → ⊥) → at-node t′ c i ≡ at-node t c i
   pub own : (i : ℕ) → i ≤ span .last → at-node t′ m i ≡ op-in span rows t x i (at-next (span .last) (at-node t′ m) end i)
 
@@ -137,21 +135,21 @@ pub record LawsBelow (p : Problem) (span : Span) (rows t : List Bool) (n : ℕ) 
       → Q-in t m i ≡ op-in span rows t (node p m) i (at-next (span .last) (Q-in t m) (Q-end (node p m)) i)
 
 -- The words are a good problem's, and the tables have room for its nodes.
-pub record TablesReady (ws : List ℕ) (s : Sizes) (span : Span) (rows t : List Bool) : Type 0 where
-  pub ready : Ready ws s
+pub record TablesReady (s : Outline) (ws : List ℕ) (span : Span) (rows t : List Bool) : Type 0 where
+  pub good : ProperIn s ws
   pub span-right : SpanRight span
   pub last-is : span .last ≡ s .bound
   pub room : length rows ≡ rows-room
   pub table-room : length t ≡ nodes-room
 
 -- Node n is next: those before it have their laws.
-pub record StepReady (ws : List ℕ) (s : Sizes) (span : Span) (rows t : List Bool) (n : ℕ) : Type 0 where
-  pub tables : TablesReady ws s span rows t
+pub record NodeReady (s : Outline) (ws : List ℕ) (span : Span) (rows t : List Bool) (n : ℕ) : Type 0 where
+  pub tables : TablesReady s ws span rows t
   pub node-there : n < s .nodes
-  pub laws-before : LawsBelow (problem ws) span rows t n
+  pub laws-before : LawsBelow (problem-in s ws) span rows t n
 
 -- What the formula's value needs; that the rows are those of a run is left to whoever wants the value to mean something.
-pub record FormulaReady (ws : List ℕ) (s : Sizes) (lasso : Bool) (start : ℕ) (rows : List Bool) : Type 0 where
-  pub ready : Ready ws s
+pub record FormulaReady (s : Outline) (ws : List ℕ) (lasso : Bool) (start : ℕ) (rows : List Bool) : Type 0 where
+  pub good : ProperIn s ws
   pub start-within : lasso ≡ true → start ≤ s .bound
   pub room : length rows ≡ rows-room

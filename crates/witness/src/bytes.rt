@@ -1,60 +1,61 @@
 // The checks of a witness's bytes, of its first latches and of its loop, in document 01's order.
-use crate::Judgement;
+use crate::WitnessAnswer;
 use crate::rows::INPUTS_AT;
 use crate::rows::LATCHES_AT;
 use crate::rows::ROW_WIDTH;
 use crate::rows::TRUE;
 use crate::rows::next_value;
-use problem::Sizes;
+use problem::Outline;
 use problem::read::latch_reset;
 ghost use mathlib.Core.Bool.{Bool·beq};
 ghost use mathlib.Core.List.{List};
 ghost use mathlib.Core.Path.{_≡_};
-ghost use Prim.Native.Nat.{ℕ, _+_, _*_, _<_};
+ghost use Prim.Native.Nat.{ℕ, _≤_};
 ghost use lib.ListN.{length};
 ghost use Rattle.clauses.specs.Lists.{numbered};
-ghost use Rattle.meaning.specs.Problem.{problem};
+ghost use Rattle.meaning.specs.Limits.{inputs-limit, bound-limit};
 ghost use Rattle.meaning.specs.Runs.{meets-reset};
 ghost use Rattle.meaning.specs.Witnesses.{witness-length, byte-limit, byte-checks, reset-checks, loop-checks, shape};
-ghost use Rattle.witness.specs.Tables.{Ready, GoodSizes, Shown};
+ghost use Rattle.problem.specs.Promise.{problem-in};
+ghost use Rattle.witness.specs.Tables.{RunShown};
 ghost use Rattle.witness.specs.Promise.{AnsweredBy, byte-check};
 
-fn witness_length(s: Sizes) -> usize
-    requires { ⌜ GoodSizes s ⌝ }
-    ensures { λ r. ⌜ r ≡ 1 + s .latches + s .inputs * (s .bound + 1) ⌝ }
+fn witness_length(s: Outline) -> usize
+    requires { ⌜ (s .inputs ≤ inputs-limit) × (s .bound ≤ bound-limit) ⌝ }
+    ensures { λ r. ⌜ ((ws : List ℕ) → r ≡ witness-length (problem-in s ws)) ⌝ }
 {
     LATCHES_AT + (s.latches as usize) + (s.inputs as usize) * (s.bound as usize + 1)
 }
 
 // "Apart from the first, bytes are 0 or 1."
-fn byte_limit(s: Sizes, i: usize) -> u32
-    requires { ⌜ GoodSizes s ⌝ }
-    ensures { λ r. ⌜ ((ws : List ℕ) → Ready ws s → r ≡ byte-limit (problem ws) i) ⌝ }
+fn byte_limit(s: Outline, i: usize) -> u32
+    requires { ⌜ s .bound ≤ bound-limit ⌝ }
+    ensures { λ r. ⌜ ((ws : List ℕ) → r ≡ byte-limit (problem-in s ws) i) ⌝ }
 {
     if i == 0 { s.bound + 1 } else { TRUE as u32 }
 }
 
-fn each_byte(s: Sizes, witness: &[u8]) -> Judgement
-    requires { ⌜ GoodSizes s ⌝ }
-    ensures { λ r. ⌜ ((ws : List ℕ) → Ready ws s → AnsweredBy (numbered 0 (now (witness .entry)) (byte-check (problem ws))) r) ⌝ }
+fn each_byte(s: Outline, witness: &[u8]) -> WitnessAnswer
+    requires { ⌜ s .bound ≤ bound-limit ⌝ }
+    ensures { λ r. ⌜ ((ws : List ℕ) → AnsweredBy (numbered 0 (now (witness .entry)) (byte-check (problem-in s ws))) r) ⌝ }
 {
     let mut i: usize = 0;
     while i < witness.len() {
         if byte_limit(s, i) < (witness[i] as u32) {
-            return Judgement::BadWitness(i);
+            return WitnessAnswer::BadWitness(i);
         }
         i += 1;
     }
-    Judgement::Yes
+    WitnessAnswer::Yes
 }
 
 // 7: "the length comes first, then the bytes in order".
-pub(crate) fn bytes_right(s: Sizes, witness: &[u8]) -> Judgement
-    requires { ⌜ GoodSizes s ⌝ }
-    ensures { λ r. ⌜ ((ws : List ℕ) → Ready ws s → AnsweredBy (byte-checks (problem ws) (now (witness .entry))) r) ⌝ }
+pub(crate) fn bytes_right(s: Outline, witness: &[u8]) -> WitnessAnswer
+    requires { ⌜ (s .inputs ≤ inputs-limit) × (s .bound ≤ bound-limit) ⌝ }
+    ensures { λ r. ⌜ ((ws : List ℕ) → AnsweredBy (byte-checks (problem-in s ws) (now (witness .entry))) r) ⌝ }
 {
     if witness.len() != witness_length(s) {
-        return Judgement::BadWitness(witness.len());
+        return WitnessAnswer::BadWitness(witness.len());
     }
     each_byte(s, witness)
 }
@@ -71,19 +72,19 @@ fn meets_reset(reset: u32, value: bool) -> bool
 }
 
 // 8: the first latch byte against its reset.
-pub(crate) fn resets(words: &[u32], s: Sizes, witness: &[u8]) -> Judgement
-    requires { ⌜ Ready (now words) s × (length (now witness) ≡ witness-length (problem (now words))) ⌝ }
-    ensures { λ r. ⌜ AnsweredBy (reset-checks (problem (now (words .entry))) (now (witness .entry))) r ⌝ }
+pub(crate) fn resets(words: &[u32], s: Outline, witness: &[u8]) -> WitnessAnswer
+    requires { ⌜ length (now witness) ≡ witness-length (problem-in s (now words)) ⌝ }
+    ensures { λ r. ⌜ AnsweredBy (reset-checks (problem-in s (now (words .entry))) (now (witness .entry))) r ⌝ }
 {
     let mut i: u32 = 0;
     while i < s.latches {
         let at = LATCHES_AT + (i as usize);
-        if !meets_reset(latch_reset(words, i), witness[at] == TRUE) {
-            return Judgement::AgainstReset(at);
+        if !meets_reset(latch_reset(words, s, i), witness[at] == TRUE) {
+            return WitnessAnswer::AgainstReset(at);
         }
         i += 1;
     }
-    Judgement::Yes
+    WitnessAnswer::Yes
 }
 
 fn same(a: bool, b: bool) -> bool
@@ -93,22 +94,22 @@ fn same(a: bool, b: bool) -> bool
 }
 
 // 9: the first latch whose next value at k is not its value at l.
-pub(crate) fn closes(words: &[u32], s: Sizes, witness: &[u8], table: &[bool]) -> Judgement
-    requires { ⌜ Shown (now words) s (now witness) (now table) ⌝ }
-    ensures { λ r. ⌜ AnsweredBy (loop-checks (problem (now (words .entry))) (now (witness .entry)) (shape (now (witness .entry)))) r ⌝ }
+pub(crate) fn closes(words: &[u32], s: Outline, witness: &[u8], table: &[bool]) -> WitnessAnswer
+    requires { ⌜ RunShown s (now words) (now witness) (now table) ⌝ }
+    ensures { λ r. ⌜ AnsweredBy (loop-checks (problem-in s (now (words .entry))) (now (witness .entry)) (shape (now (witness .entry)))) r ⌝ }
 {
     let first = witness[0] as usize;
     if first == 0 {
-        return Judgement::Yes;
+        return WitnessAnswer::Yes;
     }
     let from = (first - 1) * ROW_WIDTH + INPUTS_AT + (s.inputs as usize);
     let mut i: u32 = 0;
     while i < s.latches {
         let at = from + (i as usize);
         if !same(next_value(words, s, table, s.bound, i), table[at]) {
-            return Judgement::OpenLoop(i as usize);
+            return WitnessAnswer::OpenLoop(i as usize);
         }
         i += 1;
     }
-    Judgement::Yes
+    WitnessAnswer::Yes
 }

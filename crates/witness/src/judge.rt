@@ -1,5 +1,5 @@
 // The judge of a witness: the problem's checks, then 7 to 10, in document 01's order.
-use crate::Judgement;
+use crate::WitnessAnswer;
 use crate::bytes::bytes_right;
 use crate::bytes::closes;
 use crate::bytes::resets;
@@ -7,22 +7,22 @@ use crate::nodes::formula_value;
 use crate::rows::ROWS;
 use crate::rows::run;
 use problem::Checked;
-use problem::Sizes;
+use problem::Outline;
 use problem::check::check;
 ghost use mathlib.Core.List.{[], _∷_, _++_};
 ghost use mathlib.Core.Path.{_≡_};
-ghost use Rattle.meaning.specs.Problem.{problem};
 ghost use Rattle.meaning.specs.Formulas.{formula};
 ghost use Rattle.meaning.specs.Bounded.{bounded-value};
 ghost use Rattle.meaning.specs.Witnesses.{rows, shape, loop-checks, formula-check, judge-bytes};
 ghost use Rattle.meaning.specs.Calls.{judge-witness};
-ghost use Rattle.witness.specs.Tables.{Ready, Shown};
+ghost use Rattle.problem.specs.Promise.{problem-in, ProperIn};
+ghost use Rattle.witness.specs.Tables.{RunShown};
 ghost use Rattle.witness.specs.Promise.{AnsweredBy, answer-of};
 
 // The formula's value at 0; the first byte is "0 for a prefix or l + 1".
-fn shown_value(words: &[u32], s: Sizes, witness: &[u8], table: &[bool]) -> bool
-    requires { ⌜ Shown (now words) s (now witness) (now table) ⌝ }
-    ensures { λ r. ⌜ r ≡ bounded-value (shape (now (witness .entry))) (problem (now (words .entry)) .bound) (rows (problem (now (words .entry))) (now (witness .entry))) (formula (problem (now (words .entry)))) 0 ⌝ }
+fn shown_value(words: &[u32], s: Outline, witness: &[u8], table: &[bool]) -> bool
+    requires { ⌜ RunShown s (now words) (now witness) (now table) ⌝ }
+    ensures { λ r. ⌜ r ≡ bounded-value (shape (now (witness .entry))) (problem-in s (now (words .entry)) .bound) (rows (problem-in s (now (words .entry))) (now (witness .entry))) (formula (problem-in s (now (words .entry)))) 0 ⌝ }
 {
     let first = witness[0] as usize;
     if first == 0 {
@@ -32,31 +32,31 @@ fn shown_value(words: &[u32], s: Sizes, witness: &[u8], table: &[bool]) -> bool
 }
 
 // 9 and 10, off the table of the run.
-fn shown(words: &[u32], s: Sizes, witness: &[u8], table: &[bool]) -> Judgement
-    requires { ⌜ Shown (now words) s (now witness) (now table) ⌝ }
-    ensures { λ r. ⌜ AnsweredBy (loop-checks (problem (now (words .entry))) (now (witness .entry)) (shape (now (witness .entry))) ++ (formula-check (problem (now (words .entry))) (now (witness .entry)) ∷ [])) r ⌝ }
+fn shown(words: &[u32], s: Outline, witness: &[u8], table: &[bool]) -> WitnessAnswer
+    requires { ⌜ RunShown s (now words) (now witness) (now table) ⌝ }
+    ensures { λ r. ⌜ AnsweredBy (loop-checks (problem-in s (now (words .entry))) (now (witness .entry)) (shape (now (witness .entry))) ++ (formula-check (problem-in s (now (words .entry))) (now (witness .entry)) ∷ [])) r ⌝ }
 {
     let by_loop = closes(words, s, witness, table);
-    let Judgement::Yes = by_loop else {
+    let WitnessAnswer::Yes = by_loop else {
         return by_loop;
     };
     if !shown_value(words, s, witness, table) {
-        return Judgement::FormulaFalse;
+        return WitnessAnswer::FormulaFalse;
     }
-    Judgement::Yes
+    WitnessAnswer::Yes
 }
 
 // 7 to 10, of a good problem.
-fn judge_good(words: &[u32], s: Sizes, witness: &[u8]) -> Judgement
-    requires { ⌜ Ready (now words) s ⌝ }
-    ensures { λ r. ⌜ answer-of r ≡ judge-bytes (problem (now (words .entry))) (now (witness .entry)) ⌝ }
+fn judge_good(words: &[u32], s: Outline, witness: &[u8]) -> WitnessAnswer
+    requires { ⌜ ProperIn s (now words) ⌝ }
+    ensures { λ r. ⌜ answer-of r ≡ judge-bytes (problem-in s (now (words .entry))) (now (witness .entry)) ⌝ }
 {
     let by_bytes = bytes_right(s, witness);
-    let Judgement::Yes = by_bytes else {
+    let WitnessAnswer::Yes = by_bytes else {
         return by_bytes;
     };
     let by_resets = resets(words, s, witness);
-    let Judgement::Yes = by_resets else {
+    let WitnessAnswer::Yes = by_resets else {
         return by_resets;
     };
     let mut table = [false; ROWS];
@@ -65,12 +65,12 @@ fn judge_good(words: &[u32], s: Sizes, witness: &[u8]) -> Judgement
 }
 
 // 15, 1 to 5, 7 to 10, or yes.
-pub fn judge(version: u32, words: &[u32], witness: &[u8]) -> Judgement
+pub fn judge(version: u32, words: &[u32], witness: &[u8]) -> WitnessAnswer
     ensures { λ r. ⌜ answer-of r ≡ judge-witness version (now (words .entry)) (now (witness .entry)) ⌝ }
 {
     let checked = check(version, words);
     match checked {
         Checked::Good(s) => judge_good(words, s, witness),
-        Checked::Refused(f) => Judgement::Problem(f),
+        Checked::Refused(f) => WitnessAnswer::Problem(f),
     }
 }

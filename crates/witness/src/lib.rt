@@ -1,13 +1,14 @@
 // Judges a witness of a problem.
 use problem::Refusal;
 
-pub mod bytes;
+pub mod answer;
+mod bytes;
 pub mod judge;
-pub mod nodes;
-pub mod rows;
+mod nodes;
+mod rows;
 
-// Document 01's answers to a witness; specs/Promise.antt gives the number of each.
-pub enum Judgement {
+// Document 01's answers to a witness; `answer` gives the number and the place of each.
+pub enum WitnessAnswer {
     Yes,
     Problem(Refusal),
     BadWitness(usize),

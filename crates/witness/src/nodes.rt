@@ -4,23 +4,22 @@ use crate::rows::ROW_WIDTH;
 use crate::rows::literal;
 use problem::Left;
 use problem::Node;
-use problem::Sizes;
+use problem::Outline;
 use problem::limits::NODES_LIMIT;
 use problem::read;
 ghost use mathlib.Core.Bool.{false};
 ghost use mathlib.Core.List.{List};
 ghost use mathlib.Core.Path.{_≡_};
-ghost use Prim.Native.Nat.{ℕ, _+_, _*_, _<_, _≤_};
+ghost use Prim.Native.Nat.{ℕ, _+_, _≤_};
 ghost use lib.ListN.{length, getD};
 ghost use Rattle.meaning.specs.Limits.{bound-limit};
-ghost use Rattle.meaning.specs.Problem.{problem};
 ghost use Rattle.meaning.specs.Runs.{literal-value};
 ghost use Rattle.meaning.specs.Formulas.{formula};
 ghost use Rattle.meaning.specs.Bounded.{bounded-value};
 ghost use Rattle.meaning.specs.Witnesses.{rows};
 ghost use Rattle.pairing.specs.NodeLaws.{left-value, at-next, Q-end};
-ghost use Rattle.problem.specs.Promise.{left-of, node-read};
-ghost use Rattle.witness.specs.Tables.{RowsRight, SpanRight, OpReady, PassReady, Passed, TablesReady, StepReady, FormulaReady, LawsBelow, row-in, rows-room, at-node, E-in, op-in, shape-in, shape-given};
+ghost use Rattle.problem.specs.Promise.{problem-in, left-of, node-read};
+ghost use Rattle.witness.specs.Tables.{RowsRight, SpanRight, OpReady, PassReady, PassWrote, TablesReady, NodeReady, FormulaReady, LawsBelow, row-in, rows-room, at-node, E-in, op-in, shape-in, shape-given};
 
 // As many nodes as document 01's limits allow.
 const NODES: usize = NODES_LIMIT as usize;
@@ -29,10 +28,10 @@ const NODES: usize = NODES_LIMIT as usize;
 const ENTRIES: usize = 2 * NODES * POSITIONS;
 
 // A run's positions 0..last, and where its loop starts if it has one.
-pub struct Span {
-    pub last: u32,
-    pub lasso: bool,
-    pub start: usize,
+pub(crate) struct Span {
+    last: u32,
+    lasso: bool,
+    start: usize,
 }
 
 // The value at a place of a table, false past its end.
@@ -114,7 +113,7 @@ fn op_value(node: Node, span: Span, rows: &[bool], t: &[bool], i: u32, y: bool) 
 // One pass over a node: row m holds the op's value at each position, from the last one down.
 fn pass(node: Node, span: Span, rows: &[bool], m: usize, end: bool, t: &mut [bool])
     requires { ⌜ PassReady span (now rows) m (node-read node) (now t) ⌝ }
-    ensures { λ r. ⌜ Passed span (now (rows .entry)) m (node-read node) end (now (t .entry)) (now (t .exit)) ⌝ }
+    ensures { λ r. ⌜ PassWrote span (now (rows .entry)) m (node-read node) end (now (t .entry)) (now (t .exit)) ⌝ }
 {
     let mut y = end;
     let mut i = span.last + 1;
@@ -136,9 +135,9 @@ fn second_end(node: Node) -> bool
 }
 
 // Both passes over a node: Q, which gives E, and then P, which past the last position is E.
-fn node_values(words: &[u32], s: Sizes, span: Span, rows: &[bool], n: u32, t: &mut [bool])
-    requires { ⌜ StepReady (now words) s span (now rows) (now t) n ⌝ }
-    ensures { λ r. ⌜ LawsBelow (problem (now (words .entry))) span (now (rows .entry)) (now (t .exit)) (n + 1) ⌝ }
+fn node_values(words: &[u32], s: Outline, span: Span, rows: &[bool], n: u32, t: &mut [bool])
+    requires { ⌜ NodeReady s (now words) span (now rows) (now t) n ⌝ }
+    ensures { λ r. ⌜ LawsBelow (problem-in s (now (words .entry))) span (now (rows .entry)) (now (t .exit)) (n + 1) ⌝ }
 {
     let node = read::node(words, s, n);
     pass(node, span, rows, NODES + (n as usize), second_end(node), t);
@@ -146,9 +145,9 @@ fn node_values(words: &[u32], s: Sizes, span: Span, rows: &[bool], n: u32, t: &m
 }
 
 // "Children are earlier node numbers": the nodes in order.
-fn all_values(words: &[u32], s: Sizes, span: Span, rows: &[bool], t: &mut [bool])
-    requires { ⌜ TablesReady (now words) s span (now rows) (now t) ⌝ }
-    ensures { λ r. ⌜ LawsBelow (problem (now (words .entry))) span (now (rows .entry)) (now (t .exit)) (s .nodes) ⌝ }
+fn all_values(words: &[u32], s: Outline, span: Span, rows: &[bool], t: &mut [bool])
+    requires { ⌜ TablesReady s (now words) span (now rows) (now t) ⌝ }
+    ensures { λ r. ⌜ LawsBelow (problem-in s (now (words .entry))) span (now (rows .entry)) (now (t .exit)) (s .nodes) ⌝ }
 {
     let mut n: u32 = 0;
     while n < s.nodes {
@@ -160,13 +159,13 @@ fn all_values(words: &[u32], s: Sizes, span: Span, rows: &[bool], t: &mut [bool]
 // "The last node is the formula": its value at position 0, over the rows of a run.
 pub(crate) fn formula_value(
     words: &[u32],
-    s: Sizes,
+    s: Outline,
     lasso: bool,
     start: usize,
     table: &[bool],
 ) -> bool
-    requires { ⌜ FormulaReady (now words) s lasso start (now table) ⌝ }
-    ensures { λ r. ⌜ ((bs : List ℕ) → RowsRight (problem (now (words .entry))) bs (problem (now (words .entry)) .bound + 1) (now (table .entry)) → r ≡ bounded-value (shape-given lasso start) (problem (now (words .entry)) .bound) (rows (problem (now (words .entry))) bs) (formula (problem (now (words .entry)))) 0) ⌝ }
+    requires { ⌜ FormulaReady s (now words) lasso start (now table) ⌝ }
+    ensures { λ r. ⌜ ((bs : List ℕ) → RowsRight (problem-in s (now (words .entry))) bs (problem-in s (now (words .entry)) .bound + 1) (now (table .entry)) → r ≡ bounded-value (shape-given lasso start) (problem-in s (now (words .entry)) .bound) (rows (problem-in s (now (words .entry))) bs) (formula (problem-in s (now (words .entry)))) 0) ⌝ }
 {
     let span = Span {
         last: s.bound,

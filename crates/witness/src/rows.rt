@@ -1,5 +1,5 @@
 // The values of the variables at each position of a run, in one table of rows.
-use problem::Sizes;
+use problem::Outline;
 use problem::limits::BOUND_LIMIT;
 use problem::limits::GATES_LIMIT;
 use problem::limits::INPUTS_LIMIT;
@@ -8,16 +8,16 @@ use problem::read::gate_left;
 use problem::read::gate_place;
 use problem::read::gate_right;
 use problem::read::latch_next;
-use problem::read::node_place;
 ghost use mathlib.Core.Path.{_≡_};
 ghost use mathlib.Core.Bool.{false};
-ghost use mathlib.Core.List.{_∷_, _++_};
-ghost use Prim.Native.Nat.{_+_, _*_, _/_, _<_, _≤_};
+ghost use mathlib.Core.List.{List, _∷_, _++_};
+ghost use Prim.Native.Nat.{ℕ, _+_, _*_, _/_, _<_, _≤_};
 ghost use lib.ListN.{length, take, drop};
-ghost use Rattle.meaning.specs.Problem.{W, latch, gate, problem};
+ghost use Rattle.meaning.specs.Problem.{W, latch, gate};
 ghost use Rattle.meaning.specs.Runs.{literal-value, gate-value, with-gates};
 ghost use Rattle.meaning.specs.Witnesses.{bits, witness-length, inputs-at, position};
-ghost use Rattle.witness.specs.Tables.{Ready, Lent, RowsRight, row-width, rows-room, row-in, given-width, latches-from, next-in};
+ghost use Rattle.problem.specs.Promise.{problem-in, ProperIn};
+ghost use Rattle.witness.specs.Tables.{RowRoom, RowReady, RowsRight, row-width, rows-room, row-in, given-width, row-latches-from, next-in};
 
 // A row has a value for each of the variables 0..W, whatever W is, and a table a row for each position.
 pub(crate) const ROW_WIDTH: usize = 1 + (INPUTS_LIMIT + LATCHES_LIMIT + GATES_LIMIT) as usize;
@@ -43,7 +43,7 @@ fn literal_within(row: &[bool], x: u32) -> bool
     row[v] != (x % 2 == 1)
 }
 
-// The value of a literal in a row: narrow and final, since gates take most of the time a witness takes.
+// The value of a literal in a row; a variable that the row does not have is false.
 pub(crate) fn literal(row: &[bool], x: u32) -> bool
     ensures { λ r. ⌜ r ≡ literal-value (now (row .entry)) x ⌝ }
 {
@@ -54,14 +54,13 @@ pub(crate) fn literal(row: &[bool], x: u32) -> bool
     literal_within(row, x)
 }
 
-// "A gate is the AND of two literals". Whether words and row are long enough is the same for every gate, so the test leaves the loop over
-// them; past it the proof stands for every test of a place.
-fn gate(words: &[u32], s: Sizes, row: &[bool], j: u32) -> bool
-    requires { ⌜ Ready (now words) s × (j < s .gates) ⌝ }
-    ensures { λ r. ⌜ r ≡ gate-value (now (row .entry)) (gate (problem (now (words .entry))) j) ⌝ }
+// "A gate is the AND of two literals". Whether the words reach past the gates and the row has every variable is the same for every gate, so
+// the test leaves the loop over them; past it the proof stands for every test of a place.
+fn gate(words: &[u32], s: Outline, row: &[bool], j: u32) -> bool
+    requires { ⌜ ProperIn s (now words) × (j < s .gates) ⌝ }
+    ensures { λ r. ⌜ r ≡ gate-value (now (row .entry)) (gate (problem-in s (now (words .entry))) j) ⌝ }
 {
-    let variables = (s.inputs as usize) + (s.latches as usize) + (s.gates as usize);
-    if (node_place(s, 0) <= words.len()) & (variables < row.len()) {
+    if (gate_place(s, s.gates) <= words.len()) & ((s.width as usize) < row.len()) {
         let at = gate_place(s, j);
         return literal_within(row, words[at]) & literal_within(row, words[at + 1]);
     }
@@ -69,9 +68,9 @@ fn gate(words: &[u32], s: Sizes, row: &[bool], j: u32) -> bool
 }
 
 // The gates of a row, each over the variables before it.
-fn gates(words: &[u32], s: Sizes, row: &mut [bool])
-    requires { ⌜ Ready (now words) s × (length (now row) ≡ row-width) ⌝ }
-    ensures { λ r. ⌜ take (W (problem (now (words .entry))) + 1) (now (row .exit)) ≡ with-gates (problem (now (words .entry)) .gates) (take (given-width (problem (now (words .entry)))) (now (row .entry))) ⌝ }
+fn gates(words: &[u32], s: Outline, row: &mut [bool])
+    requires { ⌜ ProperIn s (now words) × (length (now row) ≡ row-width) ⌝ }
+    ensures { λ r. ⌜ take (W (problem-in s (now (words .entry))) + 1) (now (row .exit)) ≡ with-gates (problem-in s (now (words .entry)) .gates) (take (given-width (problem-in s (now (words .entry)))) (now (row .entry))) ⌝ }
 {
     let first = INPUTS_AT + (s.inputs + s.latches) as usize;
     let mut j: u32 = 0;
@@ -95,19 +94,19 @@ fn copy_bits(table: &mut [bool], at: usize, bytes: &[u8], from: usize, count: us
 }
 
 // A latch's next value, from the row of a position.
-pub(crate) fn next_value(words: &[u32], s: Sizes, table: &[bool], t: u32, i: u32) -> bool
-    requires { ⌜ Ready (now words) s × (i < s .latches) × ((t + 1) * row-width ≤ length (now table)) ⌝ }
-    ensures { λ r. ⌜ r ≡ literal-value (row-in (now (table .entry)) t) (latch (problem (now (words .entry))) i .next) ⌝ }
+pub(crate) fn next_value(words: &[u32], s: Outline, table: &[bool], t: u32, i: u32) -> bool
+    requires { ⌜ (t + 1) * row-width ≤ length (now table) ⌝ }
+    ensures { λ r. ⌜ r ≡ literal-value (row-in (now (table .entry)) t) (latch (problem-in s (now (words .entry))) i .next) ⌝ }
 {
     let from = (t as usize) * ROW_WIDTH;
     let to = from + ROW_WIDTH;
-    literal(&table[from..to], latch_next(words, i))
+    literal(&table[from..to], latch_next(words, s, i))
 }
 
 // The latches of the position after t, from the row of t.
-fn next_latches(words: &[u32], s: Sizes, t: u32, table: &mut [bool])
-    requires { ⌜ Ready (now words) s × ((t + 2) * row-width ≤ length (now table)) ⌝ }
-    ensures { λ r. ⌜ take (latches-from (problem (now (words .entry))) (t + 1) + s .latches) (now (table .exit)) ≡ take (latches-from (problem (now (words .entry))) (t + 1)) (now (table .entry)) ++ next-in (problem (now (words .entry))) (row-in (now (table .entry)) t) ⌝ }
+fn next_latches(words: &[u32], s: Outline, t: u32, table: &mut [bool])
+    requires { ⌜ ProperIn s (now words) × ((t + 2) * row-width ≤ length (now table)) ⌝ }
+    ensures { λ r. ⌜ take (row-latches-from (problem-in s (now (words .entry))) (t + 1) + s .latches) (now (table .exit)) ≡ take (row-latches-from (problem-in s (now (words .entry))) (t + 1)) (now (table .entry)) ++ next-in (problem-in s (now (words .entry))) (row-in (now (table .entry)) t) ⌝ }
 {
     let from = (t as usize + 1) * ROW_WIDTH + INPUTS_AT + (s.inputs as usize);
     let mut i: u32 = 0;
@@ -119,9 +118,9 @@ fn next_latches(words: &[u32], s: Sizes, t: u32, table: &mut [bool])
 }
 
 // Variable 0 and the inputs of a position.
-fn inputs(words: &[u32], s: Sizes, witness: &[u8], t: u32, table: &mut [bool])
-    requires { ⌜ Lent (now words) s (now witness) t (now table) ⌝ }
-    ensures { λ r. ⌜ take (latches-from (problem (now (words .entry))) t) (now (table .exit)) ≡ take (t * row-width) (now (table .entry)) ++ false ∷ inputs-at (problem (now (words .entry))) (now (witness .entry)) t ⌝ }
+fn inputs(s: Outline, witness: &[u8], t: u32, table: &mut [bool])
+    requires { ⌜ RowRoom s (now witness) t (now table) ⌝ }
+    ensures { λ r. ⌜ ((ws : List ℕ) → take (row-latches-from (problem-in s ws) t) (now (table .exit)) ≡ take (t * row-width) (now (table .entry)) ++ false ∷ inputs-at (problem-in s ws) (now (witness .entry)) t) ⌝ }
 {
     let at = (t as usize) * ROW_WIDTH;
     let inputs = s.inputs as usize;
@@ -131,9 +130,9 @@ fn inputs(words: &[u32], s: Sizes, witness: &[u8], t: u32, table: &mut [bool])
 }
 
 // The latches of a position: those of the witness, or the next values of the position before.
-fn latches(words: &[u32], s: Sizes, witness: &[u8], t: u32, table: &mut [bool])
-    requires { ⌜ Lent (now words) s (now witness) t (now table) ⌝ }
-    ensures { λ r. ⌜ take (latches-from (problem (now (words .entry))) t + s .latches) (now (table .exit)) ≡ take (latches-from (problem (now (words .entry))) t) (now (table .entry)) ++ position (problem (now (words .entry))) (now (witness .entry)) t .latches ⌝ }
+fn latches(words: &[u32], s: Outline, witness: &[u8], t: u32, table: &mut [bool])
+    requires { ⌜ RowReady s (now words) (now witness) t (now table) ⌝ }
+    ensures { λ r. ⌜ take (row-latches-from (problem-in s (now (words .entry))) t + s .latches) (now (table .exit)) ≡ take (row-latches-from (problem-in s (now (words .entry))) t) (now (table .entry)) ++ position (problem-in s (now (words .entry))) (now (witness .entry)) t .latches ⌝ }
 {
     if t == 0 {
         copy_bits(
@@ -149,11 +148,11 @@ fn latches(words: &[u32], s: Sizes, witness: &[u8], t: u32, table: &mut [bool])
 }
 
 // The row of a position, after those before it.
-fn row(words: &[u32], s: Sizes, witness: &[u8], t: u32, table: &mut [bool])
-    requires { ⌜ Lent (now words) s (now witness) t (now table) ⌝ }
-    ensures { λ r. ⌜ RowsRight (problem (now (words .entry))) (now (witness .entry)) (t + 1) (now (table .exit)) ⌝ }
+fn row(words: &[u32], s: Outline, witness: &[u8], t: u32, table: &mut [bool])
+    requires { ⌜ RowReady s (now words) (now witness) t (now table) ⌝ }
+    ensures { λ r. ⌜ RowsRight (problem-in s (now (words .entry))) (now (witness .entry)) (t + 1) (now (table .exit)) ⌝ }
 {
-    inputs(words, s, witness, t, table);
+    inputs(s, witness, t, table);
     latches(words, s, witness, t, table);
     let from = (t as usize) * ROW_WIDTH;
     let to = from + ROW_WIDTH;
@@ -161,9 +160,9 @@ fn row(words: &[u32], s: Sizes, witness: &[u8], t: u32, table: &mut [bool])
 }
 
 // The run that a witness shows.
-pub(crate) fn run(words: &[u32], s: Sizes, witness: &[u8], table: &mut [bool])
-    requires { ⌜ Ready (now words) s × (length (now witness) ≡ witness-length (problem (now words))) × (length (now table) ≡ rows-room) ⌝ }
-    ensures { λ r. ⌜ RowsRight (problem (now (words .entry))) (now (witness .entry)) (s .bound + 1) (now (table .exit)) ⌝ }
+pub(crate) fn run(words: &[u32], s: Outline, witness: &[u8], table: &mut [bool])
+    requires { ⌜ ProperIn s (now words) × (length (now witness) ≡ witness-length (problem-in s (now words))) × (length (now table) ≡ rows-room) ⌝ }
+    ensures { λ r. ⌜ RowsRight (problem-in s (now (words .entry))) (now (witness .entry)) (s .bound + 1) (now (table .exit)) ⌝ }
 {
     let mut t: u32 = 0;
     while t <= s.bound {

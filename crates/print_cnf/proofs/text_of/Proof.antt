@@ -2,7 +2,7 @@
 use borrow.Author.Needs.{needs}
 use Rattle.meaning.specs.Limits.{program-room}
 use Rattle.job_file.specs.Text.{text-limit}
-use Rattle.job_file.proofs.Printing.{text-first, bytes-within}
+use Rattle.job_file.proofs.Prints.{text-first, bytes-within}
 use Rattle.job_file.proofs.TextRoom.{never-short}
 use Rattle.print_cnf.proofs.text_of.Statement.{statement}
 use Rattle.print_cnf.proofs.text_of.Tie as tie

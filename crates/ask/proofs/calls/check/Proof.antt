@@ -2,7 +2,7 @@
 use Prim.Native.Nat.{_≤_}
 use native.Mathlib.Omega.{arith}
 use borrow.Author.Needs.{needs}
-use Rattle.ask.proofs.Counted.{counted}
+use Rattle.ask.proofs.CountWithin.{counted}
 use Rattle.ask.specs.Capacities.{problem-words}
 use Rattle.ask.proofs.calls.check.Statement.{statement}
 use Rattle.ask.proofs.calls.check.Tie as tie
@@ -34,8 +34,11 @@ part-check-end c = omega (arith, within (c .before .before))
 check-requires : tie.Need-check-requires
 check-requires c κs = search needs
 
-checked-requires : tie.Need-checked-requires
-checked-requires c κs = search needs
+number-requires : tie.Need-number-requires
+number-requires c κs = search needs
+
+place-requires : tie.Need-place-requires
+place-requires c κs = search needs
 
 print-answer-requires : tie.Need-print-answer-requires
 print-answer-requires c κs = search needs
@@ -55,6 +58,7 @@ check-spec =
     part-check-start
     part-check-end
     check-requires
-    checked-requires
+    number-requires
+    place-requires
     print-answer-requires
     returns-2)

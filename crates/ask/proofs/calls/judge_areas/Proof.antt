@@ -2,7 +2,7 @@
 use Prim.Native.Nat.{_≤_}
 use borrow.Author.Needs.{needs}
 use lib.ListN.{length}
-use Rattle.ask.proofs.Counted.{counted}
+use Rattle.ask.proofs.CountWithin.{counted}
 use Rattle.ask.proofs.calls.judge_areas.Statement.{statement}
 use Rattle.ask.proofs.calls.judge_areas.Tie as tie
 

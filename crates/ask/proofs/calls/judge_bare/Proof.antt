@@ -2,7 +2,7 @@
 use Prim.Native.Nat.{_≤_}
 use native.Mathlib.Omega.{arith}
 use borrow.Author.Needs.{needs}
-use Rattle.ask.proofs.Counted.{counted}
+use Rattle.ask.proofs.CountWithin.{counted}
 use Rattle.ask.specs.Capacities.{signed-words}
 use Rattle.ask.proofs.calls.judge_bare.Statement.{statement}
 use Rattle.ask.proofs.calls.judge_bare.Tie as tie
@@ -57,7 +57,9 @@ part-judge-areas-start-2 : tie.Need-part-judge-areas-start-2
 part-judge-areas-start-2 c = search needs
 
 part-judge-areas-end-2 : tie.Need-part-judge-areas-end-2
-part-judge-areas-end-2 c = omega (arith, steps-within (c .before .before .before .before .before))
+part-judge-areas-end-2 c =
+    let known = c .before .before .before .before .before in
+    omega (arith, steps-within known)
 
 judge-areas-requires : tie.Need-judge-areas-requires
 judge-areas-requires c κs = search needs

@@ -2,7 +2,7 @@
 use Prim.Native.Nat.{_≤_}
 use native.Mathlib.Omega.{arith}
 use borrow.Author.Needs.{needs}
-use Rattle.ask.proofs.Counted.{counted}
+use Rattle.ask.proofs.CountWithin.{counted}
 use Rattle.ask.specs.Capacities.{problem-words, signed-words}
 use Rattle.ask.proofs.calls.judge_refutation.Statement.{statement}
 use Rattle.ask.proofs.calls.judge_refutation.Tie as tie
@@ -57,7 +57,9 @@ part-refute-within-start-2 : tie.Need-part-refute-within-start-2
 part-refute-within-start-2 c = search needs
 
 part-refute-within-end-2 : tie.Need-part-refute-within-end-2
-part-refute-within-end-2 c = omega (arith, steps-within (c .before .before .before .before .before))
+part-refute-within-end-2 c =
+    let known = c .before .before .before .before .before in
+    omega (arith, steps-within known)
 
 refute-within-requires : tie.Need-refute-within-requires
 refute-within-requires c κs = search needs

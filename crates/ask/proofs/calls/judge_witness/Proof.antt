@@ -2,7 +2,7 @@
 use Prim.Native.Nat.{_≤_}
 use native.Mathlib.Omega.{arith}
 use borrow.Author.Needs.{needs}
-use Rattle.ask.proofs.Counted.{counted}
+use Rattle.ask.proofs.CountWithin.{counted}
 use Rattle.ask.specs.Capacities.{problem-words, witness-bytes}
 use Rattle.ask.proofs.calls.judge_witness.Statement.{statement}
 use Rattle.ask.proofs.calls.judge_witness.Tie as tie
@@ -57,13 +57,18 @@ part-judge-start-2 : tie.Need-part-judge-start-2
 part-judge-start-2 c = search needs
 
 part-judge-end-2 : tie.Need-part-judge-end-2
-part-judge-end-2 c = omega (arith, bytes-within (c .before .before .before .before .before))
+part-judge-end-2 c =
+    let known = c .before .before .before .before .before in
+    omega (arith, bytes-within known)
 
 judge-requires : tie.Need-judge-requires
 judge-requires c κs = search needs
 
-witnessed-requires : tie.Need-witnessed-requires
-witnessed-requires c κs = search needs
+number-requires : tie.Need-number-requires
+number-requires c κs = search needs
+
+place-requires : tie.Need-place-requires
+place-requires c κs = search needs
 
 print-answer-requires : tie.Need-print-answer-requires
 print-answer-requires c κs = search needs
@@ -90,6 +95,7 @@ judge-witness-spec =
     part-judge-start-2
     part-judge-end-2
     judge-requires
-    witnessed-requires
+    number-requires
+    place-requires
     print-answer-requires
     returns-3)

@@ -2,7 +2,7 @@
 use Prim.Native.Nat.{_≤_}
 use native.Mathlib.Omega.{arith}
 use borrow.Author.Needs.{needs}
-use Rattle.ask.proofs.Counted.{counted}
+use Rattle.ask.proofs.CountWithin.{counted}
 use Rattle.ask.specs.Capacities.{problem-words}
 use Rattle.ask.proofs.calls.write_cnf.Statement.{statement}
 use Rattle.ask.proofs.calls.write_cnf.Tie as tie

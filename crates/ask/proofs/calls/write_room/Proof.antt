@@ -1,6 +1,6 @@
 -- `ask::calls::write_room` is safe and ends: the count that was read lies within the room. Assumes nothing.
 use borrow.Author.Needs.{needs}
-use Rattle.ask.proofs.Counted.{counted}
+use Rattle.ask.proofs.CountWithin.{counted}
 use Rattle.ask.proofs.calls.write_room.Statement.{statement}
 use Rattle.ask.proofs.calls.write_room.Tie as tie
 

@@ -1,21 +1,36 @@
--- `encoder::circuit::closing` meets its contract: before each turn the pairs at each position below `l` are written. Assumes nothing.
-use Prim.Native.Nat.{_+_, _-_}
+-- `closing` meets its contract: before each turn the pairs at each position below `l` are written. Assumes nothing.
+use Prim.Native.Nat.{_+_, _-_, _<_}
 use native.Mathlib.Omega.{arith}
 use Rattle.meaning.specs.Limits.{bound-limit}
-use Rattle.meaning.specs.Problem.{problem}
-use Rattle.encoder.specs.Work.{closings-at}
-use Rattle.encoder.proofs.Pieces.{wrote-length}
-use Rattle.encoder.proofs.Parts.{bound-is, bound-small}
-use Rattle.encoder.proofs.Loops.{Clauses, clauses-none, clauses-room, clauses-more, clauses-all}
+use Rattle.problem.specs.Promise.{problem-in}
+use Rattle.problem.proofs.Outlines.{shows, bound-small}
+use Rattle.encoder.specs.ItemParts.{closings-at}
+use Rattle.encoder.proofs.ForEachNumber.{Clauses, clauses-none, clauses-length, clauses-room, clauses-more, clauses-all}
 use Rattle.encoder.proofs.circuit.closing.Statement.{statement}
 use Rattle.encoder.proofs.circuit.closing.Tie as tie
 
 abbrev Inv-loop : tie.InvT-loop
 Inv-loop words s room₀ at next₀ l₀ room next l =
-    Clauses (closings-at (problem words)) (problem words .bound + 1) at room₀ room l next
+    Clauses (closings-at (problem-in s words)) (problem-in s words .bound + 1) at room₀ room l next
 
 abbrev μ-loop : tie.MeasureT-loop
 μ-loop words s room₀ at next₀ l₀ room next l = s .bound + 1 - l
+
+-- ════════ The points ════════
+
+-- The state before a turn, and the function's start.
+abbrev head : tie.Then1 Inv-loop μ-loop → tie.At-loop Inv-loop μ-loop
+head turn = turn .before .before
+
+abbrev start : tie.At-loop Inv-loop μ-loop → tie.Start Inv-loop μ-loop
+start head = head .before .before
+
+below : (turn : tie.Then1 Inv-loop μ-loop)
+    → (let entry = start (head turn) in
+    head turn .loop .l < problem-in (entry .args .s) (entry .args .words .now) .bound + 1)
+below turn = rw (shows _ _ .bound-is) (omega arith)
+
+-- ════════ The needs ════════
 
 loop-holds : tie.Need-loop-holds Inv-loop μ-loop
 loop-holds c = clauses-none (c .before .pre .1)
@@ -23,13 +38,14 @@ loop-holds c = clauses-none (c .before .pre .1)
 closings-at-requires : tie.Need-closings-at-requires Inv-loop μ-loop
 closings-at-requires c κs =
     let turn = c .before in
-    let head = turn .before .before in
-    let n = head .before .before .pre in
-    (n .0, turn .if1 .taken, clauses-room (head .loop .inv) (rw (bound-is (n .0)) (omega arith)))
+    let n = start (head turn) .pre in
+    (n .0, turn .if1 .taken, clauses-room (head turn .loop .inv) (below turn))
 
 add-l : tie.Need-add-l Inv-loop μ-loop
 unfolding bound-limit
-add-l c = omega (arith, bound-small (c .before .before .before .before .before .before .before .pre .0))
+add-l c =
+    let turn = c .before .before .before in
+    omega (arith, bound-small (start (head turn) .pre .0))
 
 loop-less : tie.Need-loop-less Inv-loop μ-loop
 loop-less c = omega arith
@@ -37,18 +53,13 @@ loop-less c = omega arith
 loop-again : tie.Need-loop-again Inv-loop μ-loop
 loop-again c =
     let turn = c .before .before .before in
-    let head = turn .before .before in
-    let n = head .before .before .pre in
-    clauses-more (head .loop .inv) (rw (bound-is (n .0)) (omega arith)) (c .before .closings-at .ensures)
+    clauses-more (head turn .loop .inv) (below turn) (c .before .closings-at .ensures)
 
 same-length : tie.Need-same-length Inv-loop μ-loop
-same-length c = wrote-length (c .before .before .loop .inv .to .wrote)
+same-length c = clauses-length (c .before .before .loop .inv)
 
 returns : tie.Need-returns Inv-loop μ-loop
-returns c =
-    let head = c .before .before in
-    let n = head .before .before .pre in
-    clauses-all (head .loop .inv) (rw (bound-is (n .0)) (omega arith))
+returns c = clauses-all (c .before .before .loop .inv) (rw (shows _ _ .bound-is) (omega arith))
 
 pub closing-spec : {M : Type 1} → statement M
 closing-spec =

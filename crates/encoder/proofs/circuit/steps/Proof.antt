@@ -1,21 +1,36 @@
--- `encoder::circuit::steps` meets its contract: before each turn the steps from each position below `t` are written. Assumes nothing.
-use Prim.Native.Nat.{_-_}
+-- `steps` meets its contract: before each turn the steps from each position below `t` are written. Assumes nothing.
+use Prim.Native.Nat.{_-_, _<_}
 use native.Mathlib.Omega.{arith}
 use borrow.Author.Needs.{needs}
-use Rattle.meaning.specs.Problem.{problem}
-use Rattle.encoder.specs.Work.{steps-at}
-use Rattle.encoder.proofs.Pieces.{wrote-length}
-use Rattle.encoder.proofs.Parts.{bound-is}
-use Rattle.encoder.proofs.Loops.{Clauses, clauses-none, clauses-room, clauses-more, clauses-all}
+use Rattle.problem.specs.Promise.{problem-in}
+use Rattle.problem.proofs.Outlines.{shows}
+use Rattle.encoder.specs.ItemParts.{steps-at}
+use Rattle.encoder.proofs.ForEachNumber.{Clauses, clauses-none, clauses-length, clauses-room, clauses-more, clauses-all}
 use Rattle.encoder.proofs.circuit.steps.Statement.{statement}
 use Rattle.encoder.proofs.circuit.steps.Tie as tie
 
 abbrev Inv-loop : tie.InvT-loop
 Inv-loop words s room₀ at next₀ t₀ room next t =
-    Clauses (steps-at (problem words)) (problem words .bound) at room₀ room t next
+    Clauses (steps-at (problem-in s words)) (problem-in s words .bound) at room₀ room t next
 
 abbrev μ-loop : tie.MeasureT-loop
 μ-loop words s room₀ at next₀ t₀ room next t = s .bound - t
+
+-- ════════ The points ════════
+
+-- The state before a turn, and the function's start.
+abbrev head : tie.Then1 Inv-loop μ-loop → tie.At-loop Inv-loop μ-loop
+head turn = turn .before .before
+
+abbrev start : tie.At-loop Inv-loop μ-loop → tie.Start Inv-loop μ-loop
+start head = head .before .before
+
+below : (turn : tie.Then1 Inv-loop μ-loop)
+    → (let entry = start (head turn) in
+    head turn .loop .t < problem-in (entry .args .s) (entry .args .words .now) .bound)
+below turn = rw (shows _ _ .bound-is) (turn .if1 .taken)
+
+-- ════════ The needs ════════
 
 loop-holds : tie.Need-loop-holds Inv-loop μ-loop
 loop-holds c = clauses-none (c .before .pre .1)
@@ -23,9 +38,8 @@ loop-holds c = clauses-none (c .before .pre .1)
 steps-at-requires : tie.Need-steps-at-requires Inv-loop μ-loop
 steps-at-requires c κs =
     let turn = c .before in
-    let head = turn .before .before in
-    let n = head .before .before .pre in
-    (n .0, turn .if1 .taken, clauses-room (head .loop .inv) (rw (bound-is (n .0)) (turn .if1 .taken)))
+    let n = start (head turn) .pre in
+    (n .0, turn .if1 .taken, clauses-room (head turn .loop .inv) (below turn))
 
 add-t : tie.Need-add-t Inv-loop μ-loop
 add-t c = search needs
@@ -36,18 +50,13 @@ loop-less c = omega arith
 loop-again : tie.Need-loop-again Inv-loop μ-loop
 loop-again c =
     let turn = c .before .before .before in
-    let head = turn .before .before in
-    let n = head .before .before .pre in
-    clauses-more (head .loop .inv) (rw (bound-is (n .0)) (turn .if1 .taken)) (c .before .steps-at .ensures)
+    clauses-more (head turn .loop .inv) (below turn) (c .before .steps-at .ensures)
 
 same-length : tie.Need-same-length Inv-loop μ-loop
-same-length c = wrote-length (c .before .before .loop .inv .to .wrote)
+same-length c = clauses-length (c .before .before .loop .inv)
 
 returns : tie.Need-returns Inv-loop μ-loop
-returns c =
-    let head = c .before .before in
-    let n = head .before .before .pre in
-    clauses-all (head .loop .inv) (rw (bound-is (n .0)) (c .if1 .left))
+returns c = clauses-all (c .before .before .loop .inv) (rw (shows _ _ .bound-is) (c .if1 .left))
 
 pub steps-spec : {M : Type 1} → statement M
 steps-spec =

@@ -1,22 +1,37 @@
--- `encoder::circuit::steps_at` meets its contract: before each turn the steps of the latches below `i` are written. Assumes nothing.
-use Prim.Native.Nat.{_-_}
+-- `steps_at` meets its contract: before each turn the steps of the latches below `i` are written. Assumes nothing.
+use Prim.Native.Nat.{_-_, _<_}
 use native.Mathlib.Omega.{arith}
 use borrow.Author.Needs.{needs}
 use lib.ListN.{length}
-use Rattle.meaning.specs.Problem.{problem}
-use Rattle.encoder.specs.Work.{step-clauses}
-use Rattle.encoder.proofs.Pieces.{wrote-length}
-use Rattle.encoder.proofs.Parts.{latches-are}
-use Rattle.encoder.proofs.Loops.{Clauses, clauses-none, clauses-room, clauses-more, clauses-all}
+use Rattle.problem.specs.Promise.{problem-in}
+use Rattle.problem.proofs.Outlines.{shows}
+use Rattle.encoder.specs.ItemParts.{step-clauses}
+use Rattle.encoder.proofs.ForEachNumber.{Clauses, clauses-none, clauses-length, clauses-room, clauses-more, clauses-all}
 use Rattle.encoder.proofs.circuit.steps_at.Statement.{statement}
 use Rattle.encoder.proofs.circuit.steps_at.Tie as tie
 
 abbrev Inv-loop : tie.InvT-loop
 Inv-loop words s room₀ at t next₀ i₀ room next i =
-    Clauses (step-clauses (problem words) t) (length (problem words .latches)) at room₀ room i next
+    Clauses (step-clauses (problem-in s words) t) (length (problem-in s words .latches)) at room₀ room i next
 
 abbrev μ-loop : tie.MeasureT-loop
 μ-loop words s room₀ at t next₀ i₀ room next i = s .latches - i
+
+-- ════════ The points ════════
+
+-- The state before a turn, and the function's start.
+abbrev head : tie.Then1 Inv-loop μ-loop → tie.At-loop Inv-loop μ-loop
+head turn = turn .before .before
+
+abbrev start : tie.At-loop Inv-loop μ-loop → tie.Start Inv-loop μ-loop
+start head = head .before .before
+
+below : (turn : tie.Then1 Inv-loop μ-loop)
+    → (let entry = start (head turn) in
+    head turn .loop .i < length (problem-in (entry .args .s) (entry .args .words .now) .latches))
+below turn = rw (shows _ _ .latches-are) (turn .if1 .taken)
+
+-- ════════ The needs ════════
 
 loop-holds : tie.Need-loop-holds Inv-loop μ-loop
 loop-holds c = clauses-none (c .before .pre .2)
@@ -24,9 +39,8 @@ loop-holds c = clauses-none (c .before .pre .2)
 step-requires : tie.Need-step-requires Inv-loop μ-loop
 step-requires c κs =
     let turn = c .before in
-    let head = turn .before .before in
-    let n = head .before .before .pre in
-    (n .0, n .1, turn .if1 .taken, clauses-room (head .loop .inv) (rw (latches-are (n .0)) (turn .if1 .taken)))
+    let n = start (head turn) .pre in
+    (n .0, n .1, turn .if1 .taken, clauses-room (head turn .loop .inv) (below turn))
 
 add-i : tie.Need-add-i Inv-loop μ-loop
 add-i c = search needs
@@ -37,18 +51,13 @@ loop-less c = omega arith
 loop-again : tie.Need-loop-again Inv-loop μ-loop
 loop-again c =
     let turn = c .before .before .before in
-    let head = turn .before .before in
-    let n = head .before .before .pre in
-    clauses-more (head .loop .inv) (rw (latches-are (n .0)) (turn .if1 .taken)) (c .before .step .ensures)
+    clauses-more (head turn .loop .inv) (below turn) (c .before .step .ensures)
 
 same-length : tie.Need-same-length Inv-loop μ-loop
-same-length c = wrote-length (c .before .before .loop .inv .to .wrote)
+same-length c = clauses-length (c .before .before .loop .inv)
 
 returns : tie.Need-returns Inv-loop μ-loop
-returns c =
-    let head = c .before .before in
-    let n = head .before .before .pre in
-    clauses-all (head .loop .inv) (rw (latches-are (n .0)) (c .if1 .left))
+returns c = clauses-all (c .before .before .loop .inv) (rw (shows _ _ .latches-are) (c .if1 .left))
 
 pub steps-at-spec : {M : Type 1} → statement M
 steps-at-spec =

@@ -1,4 +1,4 @@
--- `encoder::count::count_resets` meets its contract. Assumes nothing.
+-- `count_resets` meets its contract. Assumes nothing.
 use mathlib.Core.Path.{_≡_, refl, sym, _∙_}
 use mathlib.Core.Bool.{Bool}
 use Prim.Native.Nat.{_-_, _≤_, _<_}
@@ -8,10 +8,11 @@ use borrow.Author.Needs.{needs}
 use lib.Dec.{ltb}
 use lib.ListN.{length, take, length-take}
 use lib.Seq.{take-suc, take-all}
-use Rattle.meaning.specs.Problem.{Latch, problem, latch}
+use Rattle.meaning.specs.Problem.{Problem, Latch, latch}
 use Rattle.meaning.specs.Counts.{fixed-resets}
-use Rattle.encoder.proofs.Parts.{latches-are, reset-is}
-use Rattle.encoder.proofs.Tallies.{those-few, those-more}
+use Rattle.problem.specs.Promise.{problem-in}
+use Rattle.problem.proofs.Outlines.{shows}
+use Rattle.encoder.proofs.CountingOneMore.{those-few, those-more}
 use Rattle.encoder.proofs.count.count_resets.Statement.{statement}
 use Rattle.encoder.proofs.count.count_resets.Tie as tie
 
@@ -19,10 +20,21 @@ abbrev fixed : Latch → Bool
 fixed c = ltb (c .reset) 2
 
 abbrev Inv-loop : tie.InvT-loop
-Inv-loop words s n₀ i₀ n i = (i ≤ s .latches) × (n ≡ fixed-resets (take i (problem words .latches)))
+Inv-loop words s n₀ i₀ n i = (i ≤ s .latches) × (n ≡ fixed-resets (take i (problem-in s words .latches)))
 
 abbrev μ-loop : tie.MeasureT-loop
 μ-loop words s n₀ i₀ n i = s .latches - i
+
+-- ════════ The points ════════
+
+-- The function's start, and its problem.
+abbrev start : tie.At-loop Inv-loop μ-loop → tie.Start Inv-loop μ-loop
+start head = head .before .before
+
+abbrev p : tie.At-loop Inv-loop μ-loop → Problem
+p head = problem-in (start head .args .s) (start head .args .words .now)
+
+-- ════════ The needs ════════
 
 loop-holds : tie.Need-loop-holds Inv-loop μ-loop
 loop-holds c = (omega arith, refl)
@@ -33,7 +45,7 @@ latch-reset-requires c κs = search needs
 with-reset-requires : tie.Need-with-reset-requires Inv-loop μ-loop
 with-reset-requires c κs =
     let head = c .before .before .before in
-    omega (arith, head .loop .inv .1, those-few fixed (take (head .loop .i) (problem (head .before .before .args .words .now) .latches)), length-take (head .loop .i) (problem (head .before .before .args .words .now) .latches))
+    omega (arith, head .loop .inv .1, those-few fixed (take (head .loop .i) (p head .latches)), length-take (head .loop .i) (p head .latches))
 
 add-i : tie.Need-add-i Inv-loop μ-loop
 add-i c = search needs
@@ -46,20 +58,18 @@ loop-again c =
     let read = c .before in
     let turn = read .before in
     let head = turn .before .before in
-    let start = head .before .before in
-    let r = start .pre in
-    let cs = problem (start .args .words .now) .latches in
-    let below : head .loop .i < length cs = rw (latches-are r) (turn .if1 .taken) in
-    let is = read .latch-reset .ensures ∙ reset-is r (turn .if1 .taken) in (
+    let cs = p head .latches in
+    let below : head .loop .i < length cs = rw (shows _ _ .latches-are) (turn .if1 .taken) in (
       omega arith,
-      c .with-reset .ensures ∙ rw (head .loop .inv .1, is, add-one, take-suc cs (head .loop .i) (record { next = 0; reset = 2 }) below) (sym (those-more fixed (take (head .loop .i) cs) (latch (problem (start .args .words .now)) (head .loop .i)))),
+      c .with-reset .ensures
+          ∙ rw (head .loop .inv .1, read .latch-reset .ensures, add-one, take-suc cs (head .loop .i) (record { next = 0; reset = 2 }) below)
+          (sym (those-more fixed (take (head .loop .i) cs) (latch (p head) (head .loop .i)))),
     )
 
 returns : tie.Need-returns Inv-loop μ-loop
 returns c =
     let head = c .before .before in
-    let start = head .before .before in
-    let whole : length (problem (start .args .words .now) .latches) ≤ head .loop .i = rw (latches-are (start .pre)) (c .if1 .left) in
+    let whole : length (p head .latches) ≤ head .loop .i = rw (shows _ _ .latches-are) (c .if1 .left) in
     rw take-all at (head .loop .inv .1)
 
 pub count-resets-spec : {M : Type 1} → statement M

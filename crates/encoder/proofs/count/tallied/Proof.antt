@@ -1,18 +1,22 @@
--- `encoder::count::tallied` meets its contract. Assumes nothing.
+-- `tallied` meets its contract. Assumes nothing.
 use borrow.Author.Needs.{needs}
-use mathlib.Core.Bool.{Bool}
-use native.Mathlib.Omega.{arith}
-use lib.Dec.{ltb}
-use Rattle.meaning.specs.Limits.{inputs-limit, latches-limit, gates-limit, nodes-limit, bound-limit}
-use Rattle.meaning.specs.Problem.{Latch, problem}
-use Rattle.meaning.specs.Counts.{has-equal-form, has-or-form, has-until-form}
-use Rattle.encoder.proofs.Parts.{inputs-are, latches-are, gates-are, nodes-are, bound-is, bound-small}
-use Rattle.encoder.proofs.Tallies.{those-few}
+use mathlib.Core.Path.{refl, sym, ap}
+use Prim.Native.Nat.{_+_}
+use Rattle.problem.proofs.Outlines.{shows}
+use Rattle.encoder.proofs.CountsFit.{tallied-if}
 use Rattle.encoder.proofs.count.tallied.Statement.{statement}
 use Rattle.encoder.proofs.count.tallied.Tie as tie
 
-abbrev fixed-reset : Latch → Bool
-fixed-reset c = ltb (c .reset) 2
+-- ════════ The points ════════
+
+-- Both are counted, from the last cast; and the function's start.
+abbrev counted : tie.After-struct-known4 → tie.After-count-forms
+counted c = c .before .before .before .before
+
+abbrev start : tie.After-count-forms → tie.Start
+start c = c .before .before .before
+
+-- ════════ The needs ════════
 
 count-resets-requires : tie.Need-count-resets-requires
 count-resets-requires c κs = search needs
@@ -26,8 +30,8 @@ cast-t5 c = search needs
 add-t6 : tie.Need-add-t6
 add-t6 c = search needs
 
-width-requires : tie.Need-width-requires
-width-requires c κs = search needs
+cast-t7 : tie.Need-cast-t7
+cast-t7 c = search needs
 
 cast-t8 : tie.Need-cast-t8
 cast-t8 c = search needs
@@ -35,33 +39,14 @@ cast-t8 c = search needs
 cast-t9 : tie.Need-cast-t9
 cast-t9 c = search needs
 
-cast-t10 : tie.Need-cast-t10
-cast-t10 c = search needs
-
 returns : tie.Need-returns
-unfolding inputs-limit latches-limit gates-limit nodes-limit bound-limit
 returns c =
-    let w = c .before .before in
-    let counted = w .before .before in
-    let start = counted .before .before .before in
-    let r = start .pre in
-    let p = problem (start .args .words .now) in
-    let of = counted .count-forms .ensures in
-    let fixed = counted .before .count-resets .ensures in
-    let within = r .opened .within in
-    record {
-      is = rw (bound-is r, inputs-are r, latches-are r, gates-are r, w .width .ensures, fixed, of .equals-are, of .ors-are, of .untils-are);
-      few = record {
-        positions-some = omega arith;
-        positions-few = omega (arith, bound-small r);
-        width-few = omega (arith, w .width .ensures);
-        latches-few = omega arith;
-        fixed-few = omega (arith, fixed, those-few fixed-reset (p .latches), latches-are r);
-        gates-few = omega arith;
-        nodes-few =
-            omega (arith, of .equals-are, of .ors-are, of .untils-are, nodes-are r, those-few has-equal-form (p .nodes), those-few has-or-form (p .nodes), those-few has-until-form (p .nodes));
-      };
-    }
+    let entry = start (counted c) in
+    let good = entry .pre in
+    let sizes = shows (entry .args .s) (entry .args .words .now) in
+    tallied-if (good .proper) (ap (λ k. k + 1) (sym (sizes .bound-is))) (sym (good .width-is))
+    (sym (sizes .latches-are)) (counted c .before .count-resets .ensures) (sym (sizes .gates-are))
+    (counted c .count-forms .ensures) refl refl refl
 
 pub tallied-spec : {M : Type 1} → statement M
 tallied-spec =
@@ -71,8 +56,7 @@ tallied-spec =
     count-forms-requires
     cast-t5
     add-t6
-    width-requires
+    cast-t7
     cast-t8
     cast-t9
-    cast-t10
     returns)

@@ -1,7 +1,7 @@
--- `encoder::count::with_node` meets its contract. Assumes nothing.
+-- `with_node` meets its contract. Assumes nothing.
 use borrow.Author.Needs.{needs}
 use native.Mathlib.Omega.{arith}
-use Rattle.encoder.proofs.Tallies.{added}
+use Rattle.encoder.proofs.CountingOneMore.{added}
 use Rattle.encoder.proofs.count.with_node.Statement.{statement}
 use Rattle.encoder.proofs.count.with_node.Tie as tie
 

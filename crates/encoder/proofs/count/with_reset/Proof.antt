@@ -1,4 +1,4 @@
--- `encoder::count::with_reset` meets its contract. Assumes nothing.
+-- `with_reset` meets its contract. Assumes nothing.
 use borrow.Author.Needs.{needs}
 use native.Mathlib.Omega.{arith}
 use borrow.Author.Tests.{lt-ltb, le-ltb}

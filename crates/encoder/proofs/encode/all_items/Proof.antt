@@ -1,106 +1,147 @@
--- `encoder::encode::all_items` meets its contract. Assumes nothing.
+-- `all_items` meets its contract: each item stands where the one before it ends. Assumes nothing.
 use borrow.Author.Needs.{needs}
-use mathlib.Core.List.{List, _++_}
+use mathlib.Core.Path.{_≡_, refl}
+use mathlib.Core.List.{List}
+use Prim.Native.Nat.{ℕ}
+use lib.IntN.{ℤ}
+use lib.ListN.{length}
+use Rattle.clauses.specs.Lists.{joined}
 use Rattle.clauses.specs.Clauses.{Clause}
 use Rattle.clauses.specs.CnfWords.{words-of}
-use Rattle.meaning.specs.Problem.{Problem, problem}
-use Rattle.meaning.specs.Cnf.{closing-item, selectors-item, nodes-item, cnf}
-use Rattle.encoder.specs.Work.{Room, Wrote, first-items, formula-unit}
-use Rattle.encoder.proofs.Loops.{room-first, room-second, clauses-then}
+use Rattle.meaning.specs.Problem.{Problem}
+use Rattle.meaning.specs.Cnf.{formula-item, cnf-items, cnf}
+use Rattle.problem.specs.Promise.{problem-in}
+use Rattle.problem.proofs.Outlines.{shows, nodes-some}
+use Rattle.encoder.specs.Writing.{Room, Wrote}
+use Rattle.encoder.specs.ItemParts.{formula-unit}
+use Rattle.encoder.proofs.ItemsWritten.{Writing, to-write, room-for-next, and-written, all-written}
+use Rattle.encoder.proofs.WithinLimits.{sized, small, nodes-within}
 use Rattle.encoder.proofs.encode.all_items.Statement.{statement}
 use Rattle.encoder.proofs.encode.all_items.Tie as tie
 
--- ════════ The parts ════════
+-- ════════ The points ════════
+
+-- The function's start, from after each item.
+abbrev from-truth : tie.After-clause1 → tie.Start
+from-truth c = c .before .before .before
+
+abbrev from-gates : tie.After-gates → tie.Start
+from-gates c = from-truth (c .before .before .before)
+
+abbrev from-resets : tie.After-resets → tie.Start
+from-resets c = from-gates (c .before .before .before)
+
+abbrev from-steps : tie.After-steps → tie.Start
+from-steps c = from-resets (c .before .before .before)
+
+abbrev from-closing : tie.After-closing → tie.Start
+from-closing c = from-steps (c .before .before .before)
+
+abbrev from-selectors : tie.After-selectors → tie.Start
+from-selectors c = from-closing (c .before .before .before)
+
+abbrev from-nodes : tie.After-nodes → tie.Start
+from-nodes c = from-selectors (c .before .before .before)
+
+-- ════════ What is written after each item ════════
 
 abbrev p : tie.Start → Problem
-p c = problem (c .args .words .now)
+p c = problem-in (c .args .s) (c .args .words .now)
 
-abbrev to-5 : tie.Start → List Clause
-to-5 c = first-items (p c) ++ closing-item (p c)
+abbrev items : tie.Start → List (List Clause)
+items c = cnf-items (p c)
 
-abbrev to-6 : tie.Start → List Clause
-to-6 c = to-5 c ++ selectors-item (p c)
-
-abbrev to-7 : tie.Start → List Clause
-to-7 c = to-6 c ++ nodes-item (p c)
-
-room8 : (c : tie.Start) → Room 0 (to-7 c ++ formula-unit (p c)) (c .args .room .now)
+room-for-all : (c : tie.Start) → Room 0 (joined (items c)) (c .args .room .now)
 unfolding cnf
-room8 c = c .pre .1
+room-for-all c = c .pre .1
 
-room7 : (c : tie.Start) → Room 0 (to-7 c) (c .args .room .now)
-room7 c = room-first (to-7 c) (formula-unit (p c)) (room8 c)
+abbrev nothing-written : tie.Start → Writing
+nothing-written c = to-write (items c) (room-for-all c)
 
-room6 : (c : tie.Start) → Room 0 (to-6 c) (c .args .room .now)
-room6 c = room-first (to-6 c) (nodes-item (p c)) (room7 c)
+abbrev truth-written : tie.After-clause1 → Writing
+truth-written c = and-written (nothing-written (from-truth c)) refl (c .clause1 .ensures)
 
-room5 : (c : tie.Start) → Room 0 (to-5 c) (c .args .room .now)
-room5 c = room-first (to-5 c) (selectors-item (p c)) (room6 c)
+abbrev gates-written : tie.After-gates → Writing
+gates-written c = and-written (truth-written (c .before .before .before)) refl (c .gates .ensures)
 
--- What is written after each.
-wrote5 : (c : tie.After-closing)
-    → (let start = c .before .before .before .before .before .before in
-    Wrote 0 (words-of (to-5 start)) (start .args .room .now) (c .closing .last .1 .1 .0) (c .closing .result))
-wrote5 c =
-    let start = c .before .before .before .before .before .before in
-    clauses-then (first-items (p start)) (closing-item (p start)) (c .before .before .before .first-items .ensures) (c .closing .ensures)
+abbrev resets-written : tie.After-resets → Writing
+resets-written c = and-written (gates-written (c .before .before .before)) refl (c .resets .ensures)
 
-wrote6 : (c : tie.After-selectors)
-    → (let start = c .before .before .before .before .before .before .before .before .before in
-    Wrote 0 (words-of (to-6 start)) (start .args .room .now) (c .selectors .last .1 .1 .0) (c .selectors .result))
-wrote6 c =
-    let start = c .before .before .before .before .before .before .before .before .before in
-    clauses-then (to-5 start) (selectors-item (p start)) (wrote5 (c .before .before .before)) (c .selectors .ensures)
+abbrev steps-written : tie.After-steps → Writing
+steps-written c = and-written (resets-written (c .before .before .before)) refl (c .steps .ensures)
 
-wrote7 : (c : tie.After-nodes)
-    → (let start = c .before .before .before .before .before .before .before .before .before .before .before .before in
-    Wrote 0 (words-of (to-7 start)) (start .args .room .now) (c .nodes .last .1 .1 .0) (c .nodes .result))
-wrote7 c =
-    let start = c .before .before .before .before .before .before .before .before .before .before .before .before in
-    clauses-then (to-6 start) (nodes-item (p start)) (wrote6 (c .before .before .before)) (c .nodes .ensures)
+abbrev closing-written : tie.After-closing → Writing
+closing-written c = and-written (steps-written (c .before .before .before)) refl (c .closing .ensures)
+
+abbrev selectors-written : tie.After-selectors → Writing
+selectors-written c =
+    let start = from-selectors c in
+    and-written (closing-written (c .before .before .before)) refl (c .selectors .ensures .wrote (p start) (sized (start .pre .0)))
+
+abbrev nodes-written : tie.After-nodes → Writing
+nodes-written c = and-written (selectors-written (c .before .before .before)) refl (c .nodes .ensures)
+
+-- The outline has the number of the problem's nodes.
+as-item : (p : Problem) (n : ℕ) {at r : ℕ} {before after : List ℤ} → length (p .nodes) ≡ n
+    → Wrote at (words-of (formula-unit p n)) before after r → Wrote at (words-of (formula-item p)) before after r
+as-item p n e w = rw e w
+
+abbrev formula-written : tie.After-formula → Writing
+formula-written c =
+    let done = c .before .before .before in
+    let start = from-nodes done in
+    and-written (nodes-written done) refl
+    (as-item (p start) (start .args .s .nodes) (shows (start .args .s) (start .args .words .now) .nodes-are) (c .formula .ensures .wrote (p start) (sized (start .pre .0))))
 
 -- ════════ The needs ════════
 
-first-items-requires : tie.Need-first-items-requires
-first-items-requires c κs =
-    let start = c .before .before in
-    (start .pre .0, room-first (first-items (p start)) (closing-item (p start)) (room5 start))
+clause1-requires : tie.Need-clause1-requires
+unfolding cnf
+clause1-requires c κs = search needs
+
+gates-requires : tie.Need-gates-requires
+gates-requires c κs = (search needs, room-for-next (truth-written (c .before .before)) refl)
+
+resets-requires : tie.Need-resets-requires
+resets-requires c κs = (search needs, room-for-next (gates-written (c .before .before)) refl)
+
+steps-requires : tie.Need-steps-requires
+steps-requires c κs = (search needs, room-for-next (resets-written (c .before .before)) refl)
 
 closing-requires : tie.Need-closing-requires
-closing-requires c κs =
-    let first = c .before .before in
-    let start = first .before .before .before in
-    (start .pre .0, room-second (first-items (p start)) (closing-item (p start)) (first .first-items .ensures) (room5 start))
+closing-requires c κs = (search needs, room-for-next (steps-written (c .before .before)) refl)
 
 selectors-requires : tie.Need-selectors-requires
 selectors-requires c κs =
-    let start = c .before .before .before .before .before .before .before .before in
-    (start .pre .0, room-second (to-5 start) (selectors-item (p start)) (wrote5 (c .before .before)) (room6 start))
+    let done = c .before .before in
+    let start = from-closing done in
+    let good = start .pre .0 in
+    (small good, record { p = p start; sized = sized good; suffices = room-for-next (closing-written done) refl })
 
 nodes-requires : tie.Need-nodes-requires
-nodes-requires c κs =
-    let start = c .before .before .before .before .before .before .before .before .before .before .before in
-    (start .pre .0, room-second (to-6 start) (nodes-item (p start)) (wrote6 (c .before .before)) (room7 start))
+nodes-requires c κs = (search needs, room-for-next (selectors-written (c .before .before)) refl)
 
 formula-requires : tie.Need-formula-requires
 formula-requires c κs =
-    let start = c .before .before .before .before .before .before .before .before .before .before .before .before .before .before in
-    (start .pre .0, room-second (to-7 start) (formula-unit (p start)) (wrote7 (c .before .before)) (room8 start))
+    let done = c .before .before in
+    let good = from-nodes done .pre .0 in
+    (small good, nodes-some good, nodes-within good, (room-for-next (nodes-written done) refl) .fits)
 
 same-length : tie.Need-same-length
 same-length c = search needs
 
 returns : tie.Need-returns
 unfolding cnf
-returns c =
-    let start = c .before .before .before .before .before .before .before .before .before .before .before .before .before .before .before .before in
-    clauses-then (to-7 start) (formula-unit (p start)) (wrote7 (c .before .before .before .before)) (c .before .formula .ensures)
+returns c = all-written (formula-written (c .before)) refl
 
 pub all-items-spec : {M : Type 1} → statement M
 all-items-spec =
     tie.close
     (tie.spec
-    first-items-requires
+    clause1-requires
+    gates-requires
+    resets-requires
+    steps-requires
     closing-requires
     selectors-requires
     nodes-requires

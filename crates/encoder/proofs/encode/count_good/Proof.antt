@@ -1,6 +1,6 @@
--- `encoder::encode::count_good` meets its contract. Assumes nothing.
+-- `count_good` meets its contract. Assumes nothing.
 use borrow.Author.Needs.{needs}
-use Rattle.encoder.proofs.Outcomes.{variables-counted, clauses-counted, words-counted}
+use Rattle.encoder.proofs.ClosedForms.{variables-counted, clauses-counted, words-counted}
 use Rattle.encoder.proofs.encode.count_good.Statement.{statement}
 use Rattle.encoder.proofs.encode.count_good.Tie as tie
 

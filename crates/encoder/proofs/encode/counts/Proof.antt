@@ -1,14 +1,20 @@
--- `encoder::encode::counts` meets its contract. Assumes nothing.
+-- `counts` meets its contract. Assumes nothing.
 use borrow.Author.Needs.{needs}
 use Rattle.problem.specs.declared.Checked.the-variants.{Good}
 use Rattle.problem.specs.Promise.{CheckedAs}
-use Rattle.encoder.proofs.Outcomes.{ready-if-good}
+use Rattle.problem.proofs.Formed.{proper-if-good}
 use Rattle.encoder.proofs.encode.counts.Statement.{statement}
 use Rattle.encoder.proofs.encode.counts.Tie as tie
 
-good : (c : tie.After-checked)
-    → CheckedAs (c .before .before .before .before .args .version) (c .before .before .before .before .args .words .now) (Good (c .checked .given .0 .0))
+-- ════════ The points ════════
+
+abbrev start : tie.After-checked → tie.Start
+start c = c .before .before .before .before
+
+good : (c : tie.After-checked) → CheckedAs (start c .args .version) (start c .args .words .now) (Good (c .checked .given .0 .0))
 good c = rw (c .checked .given .1) at (c .before .before .check .ensures)
+
+-- ════════ The needs ════════
 
 check-requires : tie.Need-check-requires
 check-requires c κs = search needs
@@ -17,13 +23,15 @@ enum-known-checked : tie.Need-enum-known-checked
 enum-known-checked c = search needs
 
 count-good-requires : tie.Need-count-good-requires
-count-good-requires c κs = ready-if-good (good (c .before))
+count-good-requires c κs = proper-if-good (good (c .before))
 
 enum-known-checked-2 : tie.Need-enum-known-checked-2
 enum-known-checked-2 c = search needs
 
 returns : tie.Need-returns
-returns c = record { answered = (good (c .before .before)) .answered; numbered = c .count-good .ensures }
+returns c =
+    let checked = good (c .before .before) in
+    record { answered = checked .answered; numbered = rw (checked .outlined .problem-is) at (c .count-good .ensures) }
 
 returns-2 : tie.Need-returns-2
 returns-2 c =

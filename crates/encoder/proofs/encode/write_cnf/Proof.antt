@@ -1,14 +1,21 @@
--- `encoder::encode::write_cnf` meets its contract. Assumes nothing.
+-- `write_cnf` meets its contract. Assumes nothing.
 use borrow.Author.Needs.{needs}
 use Rattle.problem.specs.declared.Checked.the-variants.{Good}
 use Rattle.problem.specs.Promise.{CheckedAs}
-use Rattle.encoder.proofs.Outcomes.{ready-if-good, encoded-if-good, encoded-if-refused}
+use Rattle.problem.proofs.Formed.{proper-if-good}
+use Rattle.encoder.proofs.RoomAnswers.{encoded-if-good, encoded-if-refused}
 use Rattle.encoder.proofs.encode.write_cnf.Statement.{statement}
 use Rattle.encoder.proofs.encode.write_cnf.Tie as tie
 
-good : (c : tie.After-checked)
-    → CheckedAs (c .before .before .before .before .args .version) (c .before .before .before .before .args .words .now) (Good (c .checked .given .0 .0))
+-- ════════ The points ════════
+
+abbrev start : tie.After-checked → tie.Start
+start c = c .before .before .before .before
+
+good : (c : tie.After-checked) → CheckedAs (start c .args .version) (start c .args .words .now) (Good (c .checked .given .0 .0))
 good c = rw (c .checked .given .1) at (c .before .before .check .ensures)
+
+-- ════════ The needs ════════
 
 check-requires : tie.Need-check-requires
 check-requires c κs = search needs
@@ -17,7 +24,7 @@ enum-known-checked : tie.Need-enum-known-checked
 enum-known-checked c = search needs
 
 write-good-requires : tie.Need-write-good-requires
-write-good-requires c κs = ready-if-good (good (c .before .before))
+write-good-requires c κs = proper-if-good (good (c .before .before))
 
 enum-known-checked-2 : tie.Need-enum-known-checked-2
 enum-known-checked-2 c = search needs

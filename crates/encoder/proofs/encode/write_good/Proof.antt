@@ -1,15 +1,27 @@
--- `encoder::encode::write_good` meets its contract. Assumes nothing.
+-- `write_good` meets its contract. Assumes nothing.
 use borrow.Author.Needs.{needs}
 use mathlib.Core.Path.{_≡_}
 use lib.ListN.{length}
-use Rattle.meaning.specs.Problem.{problem}
+use Rattle.meaning.specs.Problem.{Problem}
 use Rattle.meaning.specs.Cnf.{cnf-words}
-use Rattle.encoder.proofs.Outcomes.{words-of-cnf, too-small, room-suffices, all-written}
+use Rattle.problem.specs.Promise.{problem-in}
+use Rattle.encoder.proofs.ClosedForms.{words-of-cnf}
+use Rattle.encoder.proofs.RoomAnswers.{room-suffices, too-small, all-written}
 use Rattle.encoder.proofs.encode.write_good.Statement.{statement}
 use Rattle.encoder.proofs.encode.write_good.Tie as tie
 
-needed : (c : tie.After-words-in) → c .words-in .result ≡ length (cnf-words (problem (c .before .before .before .args .words .now)))
+-- ════════ The points ════════
+
+abbrev start : tie.After-words-in → tie.Start
+start c = c .before .before .before
+
+abbrev p : tie.After-words-in → Problem
+p c = problem-in (start c .args .s) (start c .args .words .now)
+
+needed : (c : tie.After-words-in) → c .words-in .result ≡ length (cnf-words (p c))
 needed c = words-of-cnf (c .before .tallied .ensures) (c .words-in .ensures)
+
+-- ════════ The needs ════════
 
 tallied-requires : tie.Need-tallied-requires
 tallied-requires c κs = search needs
@@ -18,18 +30,20 @@ words-in-requires : tie.Need-words-in-requires
 words-in-requires c κs = search needs
 
 returns : tie.Need-returns
-returns c = too-small (needed (c .before)) (c .if1 .taken)
+returns c = too-small (p (c .before)) (needed (c .before)) (c .if1 .taken)
 
 all-items-requires : tie.Need-all-items-requires
 all-items-requires c κs =
     let known = c .before .before in
-    (known .before .before .before .pre, room-suffices (problem (known .before .before .before .args .words .now)) (needed known) (c .before .if1 .left))
+    (start known .pre, room-suffices (p known) (needed known) (c .before .if1 .left))
 
 same-length : tie.Need-same-length
 same-length c = search needs
 
 returns-2 : tie.Need-returns-2
-returns-2 c = all-written (c .before .all-items .ensures)
+returns-2 c =
+    let known = c .before .before .before .before in
+    all-written (p known) (c .before .all-items .ensures)
 
 pub write-good-spec : {M : Type 1} → statement M
 write-good-spec =

@@ -1,6 +1,6 @@
--- `encoder::forms::and_form` meets its contract. Assumes nothing.
+-- `and_form` meets its contract. Assumes nothing.
 use borrow.Author.Needs.{needs}
-use Rattle.encoder.proofs.Negation.{word-is, turned-fits, turned-negatable, negation-is}
+use Rattle.encoder.proofs.MachineLiterals.{word-is, turned-fits, turned-negatable, negation-is}
 use Rattle.encoder.proofs.forms.and_form.Statement.{statement}
 use Rattle.encoder.proofs.forms.and_form.Tie as tie
 

@@ -1,6 +1,6 @@
--- `encoder::forms::excluded_pair` meets its contract. Assumes nothing.
+-- `excluded_pair` meets its contract. Assumes nothing.
 use borrow.Author.Needs.{needs}
-use Rattle.encoder.proofs.Negation.{word-is, turned-fits, negation-is}
+use Rattle.encoder.proofs.MachineLiterals.{word-is, turned-fits, negation-is}
 use Rattle.encoder.proofs.forms.excluded_pair.Statement.{statement}
 use Rattle.encoder.proofs.forms.excluded_pair.Tie as tie
 

@@ -1,7 +1,7 @@
--- `encoder::forms::until_form` meets its contract. Assumes nothing.
+-- `until_form` meets its contract. Assumes nothing.
 use borrow.Author.Needs.{needs}
-use Rattle.encoder.proofs.Pieces.{wrote-then}
-use Rattle.encoder.proofs.Negation.{word-is, turned-fits, negation-is}
+use Rattle.encoder.proofs.OneAfterAnother.{wrote-then}
+use Rattle.encoder.proofs.MachineLiterals.{word-is, turned-fits, negation-is}
 use Rattle.encoder.proofs.forms.until_form.Statement.{statement}
 use Rattle.encoder.proofs.forms.until_form.Tie as tie
 

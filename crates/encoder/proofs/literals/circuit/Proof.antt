@@ -1,12 +1,15 @@
--- `encoder::literals::circuit` meets its contract. Assumes nothing.
+-- `circuit` meets its contract. Assumes nothing.
 use Prim.Native.Nat.{_+_, _*_, _^_, _<_}
 use native.Mathlib.Omega.{arith}
-use Rattle.encoder.proofs.Sizes.{circuit-size, circuit-some, pos-word, pos-negatable}
+use Rattle.encoder.proofs.VariableNumbers.{circuit-size, circuit-some, pos-word, pos-negatable}
 use Rattle.encoder.proofs.literals.circuit.Statement.{statement}
 use Rattle.encoder.proofs.literals.circuit.Tie as tie
 
-size : (c : tie.Else1) → 1 + c .before .args .t * c .before .args .width + c .before .args .v < 2 ^ 31
-size c = circuit-size (c .before .pre .0) _ (c .before .pre .1)
+abbrev start : tie.After-struct-known → tie.Start
+start c = c .before .before
+
+size : (c : tie.After-struct-known) → 1 + start c .args .t * start c .args .s .width + start c .args .v < 2 ^ 31
+size c = circuit-size (start c .pre .0) _ _ (start c .pre .1) (start c .pre .2)
 
 mul-result : tie.Need-mul-result
 mul-result c = omega (arith, size c)
@@ -21,10 +24,13 @@ cast-result : tie.Need-cast-result
 cast-result c = omega (arith, size c)
 
 returns : tie.Need-returns
-returns c = (λ p e. rw (c .if1 .taken), omega arith)
+returns c = record { is = λ p z. rw (c .if1 .taken); negatable = omega arith }
 
 returns-2 : tie.Need-returns-2
-returns-2 c = (λ p e. rw (pos-word (size c)) (circuit-some p _ _ (c .if1 .left) e), pos-negatable (size c))
+returns-2 c = record {
+  is = λ p z. rw (pos-word (size c)) (circuit-some z _ _ (c .before .if1 .left));
+  negatable = pos-negatable (size c);
+}
 
 pub circuit-spec : {M : Type 1} → statement M
 circuit-spec =

@@ -1,6 +1,6 @@
--- `encoder::literals::e_literal` meets its contract. Assumes nothing.
+-- `e_literal` meets its contract. Assumes nothing.
 use borrow.Author.Needs.{needs}
-use Rattle.encoder.proofs.Sizes.{pos-word, pos-negatable}
+use Rattle.encoder.proofs.VariableNumbers.{pos-word, pos-negatable}
 use Rattle.encoder.proofs.literals.e_literal.Statement.{statement}
 use Rattle.encoder.proofs.literals.e_literal.Tie as tie
 
@@ -21,8 +21,11 @@ cast-result c = search needs
 
 returns : tie.Need-returns
 returns c =
-    let nodes = c .node-variables .ensures in
-    (λ p ew eb. rw (pos-word (nodes .1), nodes .0 p ew eb, eb), pos-negatable (nodes .1))
+    let nodes = c .before .node-variables .ensures in
+    record {
+      is = λ p z. rw (pos-word (nodes .1), nodes .0 p z, z .bound-is);
+      negatable = pos-negatable (nodes .1);
+    }
 
 pub e-literal-spec : {M : Type 1} → statement M
 e-literal-spec =

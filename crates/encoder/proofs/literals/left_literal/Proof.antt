@@ -1,7 +1,7 @@
--- `encoder::literals::left_literal` meets its contract. Assumes nothing.
+-- `left_literal` meets its contract. Assumes nothing.
 use borrow.Author.Needs.{needs}
 use native.Mathlib.Omega.{arith}
-use Rattle.encoder.proofs.Negation.{word-is}
+use Rattle.encoder.proofs.MachineLiterals.{passes, literal-passed}
 use Rattle.encoder.proofs.literals.left_literal.Statement.{statement}
 use Rattle.encoder.proofs.literals.left_literal.Tie as tie
 
@@ -18,16 +18,24 @@ p-literal-requires c κs =
     (n .0, rw (child .left2 .given .1) at (n .1))
 
 returns : tie.Need-returns
-returns c = (λ p ew eb. rw (c .before .before .left .given .1, c .if1 .taken), omega arith)
+returns c = record {
+  is = λ p z. rw (c .before .before .left .given .1, c .if1 .taken);
+  negatable = omega arith;
+}
 
 returns-2 : tie.Need-returns-2
-returns-2 c = (λ p ew eb. rw (c .before .before .left .given .1, c .if1 .left), omega arith)
+returns-2 c = record {
+  is = λ p z. rw (c .before .before .left .given .1, c .if1 .left);
+  negatable = omega arith;
+}
 
 returns-3 : tie.Need-returns-3
 returns-3 c =
     let e = c .p-literal .ensures in
-    let h = e .1 in
-    (λ p ew eb. rw (word-is h, c .before .before .left2 .given .1) (e .0 p ew eb), rw word-is h)
+    record {
+      is = λ p z. rw (c .before .before .left2 .given .1) (literal-passed e z);
+      negatable = passes (e .negatable);
+    }
 
 pub left-literal-spec : {M : Type 1} → statement M
 left-literal-spec =

@@ -1,10 +1,9 @@
--- `encoder::literals::p_literal` meets its contract. Assumes nothing.
+-- `p_literal` meets its contract. Assumes nothing.
 use borrow.Author.Needs.{needs}
 use Prim.Native.Nat.{_+_, _^_, _<_}
-use borrow.Author.Tests.{le-leb}
 use native.Mathlib.Omega.{arith}
-use Rattle.encoder.proofs.Sizes.{pos-word, pos-negatable, P-past}
-use Rattle.encoder.proofs.Negation.{word-is}
+use Rattle.encoder.proofs.VariableNumbers.{pos-word, pos-negatable, P-within, P-past}
+use Rattle.encoder.proofs.MachineLiterals.{passes, literal-passed}
 use Rattle.encoder.proofs.literals.p_literal.Statement.{statement}
 use Rattle.encoder.proofs.literals.p_literal.Tie as tie
 
@@ -23,14 +22,20 @@ e-literal-requires c κs = search needs
 returns : tie.Need-returns
 returns c =
     let nodes = c .node-variables .ensures in
-    let size : c .node-variables .result + c .before .before .args .i < 2 ^ 31 = omega arith in
-    (λ p ew eb. rw (pos-word size, nodes .0 p ew eb, eb, le-leb _ _ (c .before .if1 .taken)), pos-negatable size)
+    let start = c .before .before .before in
+    let size : c .node-variables .result + start .args .i < 2 ^ 31 = omega arith in
+    record {
+      is = λ p z. rw (pos-word size, nodes .0 p z, P-within z _ _ (c .before .if1 .taken));
+      negatable = pos-negatable size;
+    }
 
 returns-2 : tie.Need-returns-2
 returns-2 c =
     let e = c .e-literal .ensures in
-    let h = e .1 in
-    (λ p ew eb. rw (word-is, P-past p _ _ eb (c .before .if1 .left)) (e .0 p ew eb), rw word-is h)
+    record {
+      is = λ p z. rw (P-past z _ _ (c .before .if1 .left)) (literal-passed e z);
+      negatable = passes (e .negatable);
+    }
 
 pub p-literal-spec : {M : Type 1} → statement M
 p-literal-spec =

@@ -1,4 +1,4 @@
--- `encoder::literals::q_end` meets its contract. Assumes nothing.
+-- `q_end` meets its contract. Assumes nothing.
 use borrow.Author.Needs.{needs}
 use mathlib.Core.Path.{_≡_, refl}
 use mathlib.Core.List.{List, [], _∷_}

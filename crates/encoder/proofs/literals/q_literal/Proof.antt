@@ -1,10 +1,9 @@
--- `encoder::literals::q_literal` meets its contract. Assumes nothing.
+-- `q_literal` meets its contract. Assumes nothing.
 use borrow.Author.Needs.{needs}
 use Prim.Native.Nat.{_+_, _^_, _<_}
-use borrow.Author.Tests.{le-leb, lt-leb}
 use native.Mathlib.Omega.{arith}
-use Rattle.encoder.proofs.Sizes.{pos-word, pos-negatable}
-use Rattle.encoder.proofs.Negation.{word-is}
+use Rattle.encoder.proofs.VariableNumbers.{pos-word, pos-negatable, Q-within, Q-past}
+use Rattle.encoder.proofs.MachineLiterals.{word-is, passes}
 use Rattle.encoder.proofs.literals.q_literal.Statement.{statement}
 use Rattle.encoder.proofs.literals.q_literal.Tie as tie
 
@@ -25,15 +24,22 @@ cast-result c = search needs
 
 returns : tie.Need-returns
 returns c =
-    let nodes = c .node-variables .ensures in
-    let s = c .before .before .args in
-    let size : c .node-variables .result + (s .bound + 1) + s .i < 2 ^ 31 = omega arith in
-    (λ p ew eb. rw (pos-word size, nodes .0 p ew eb, eb, le-leb _ _ (c .before .if1 .taken)), pos-negatable size)
+    let made = c .before in
+    let start = made .before .before .before in
+    let nodes = made .node-variables .ensures in
+    let size : made .node-variables .result + (start .args .s .bound + 1) + start .args .i < 2 ^ 31 = omega arith in
+    record {
+      is = λ p z. rw (pos-word size, nodes .0 p z, Q-within z _ _ _ (made .before .if1 .taken));
+      negatable = pos-negatable size;
+    }
 
 returns-2 : tie.Need-returns-2
 returns-2 c =
-    let h = c .before .pre .2 in
-    (λ p ew eb. rw (eb, lt-leb _ _ (c .if1 .left)) (word-is h), rw (word-is h) h)
+    let end = c .before .before .pre .2 in
+    record {
+      is = λ p z. rw (Q-past z _ _ _ (c .if1 .left)) (word-is end);
+      negatable = passes end;
+    }
 
 pub q-literal-spec : {M : Type 1} → statement M
 q-literal-spec =

@@ -1,13 +1,16 @@
--- `encoder::literals::selector` meets its contract. Assumes nothing.
+-- `selector` meets its contract. Assumes nothing.
 use Prim.Native.Nat.{_+_, _*_, _^_, _<_}
 use native.Mathlib.Omega.{arith}
 use Rattle.meaning.specs.Limits.{bound-limit}
-use Rattle.encoder.proofs.Sizes.{selector-size, pos-word, pos-negatable}
+use Rattle.encoder.proofs.VariableNumbers.{selector-size, pos-word, pos-negatable}
 use Rattle.encoder.proofs.literals.selector.Statement.{statement}
 use Rattle.encoder.proofs.literals.selector.Tie as tie
 
-size : (c : tie.Start) → (c .args .bound + 1) * c .args .width + 2 + c .args .l < 2 ^ 31
-size c = selector-size (c .pre .0) _ (c .pre .1)
+abbrev start : tie.After-struct-known2 → tie.Start
+start c = c .before .before
+
+size : (c : tie.After-struct-known2) → (start c .args .s .bound + 1) * start c .args .s .width + 2 + start c .args .l < 2 ^ 31
+size c = selector-size (start c .pre .0) _ (start c .pre .1)
 
 add-result : tie.Need-add-result
 unfolding bound-limit
@@ -26,7 +29,10 @@ cast-result : tie.Need-cast-result
 cast-result c = omega (arith, size c)
 
 returns : tie.Need-returns
-returns c = (λ p ew eb. rw (pos-word (size c), ew, eb), pos-negatable (size c))
+returns c = record {
+  is = λ p z. rw (pos-word (size c), z .width-is, z .bound-is);
+  negatable = pos-negatable (size c);
+}
 
 pub selector-spec : {M : Type 1} → statement M
 selector-spec =

@@ -1,7 +1,7 @@
--- `encoder::write::clause2` meets its contract. Assumes nothing.
+-- `clause2` meets its contract. Assumes nothing.
 use borrow.Author.Needs.{needs}
 use mir.Facts.{toZ-ofZ}
-use Rattle.encoder.proofs.Pieces.{wrote-then}
+use Rattle.encoder.proofs.OneAfterAnother.{wrote-then}
 use Rattle.encoder.proofs.write.clause2.Statement.{statement}
 use Rattle.encoder.proofs.write.clause2.Tie as tie
 

@@ -1,7 +1,7 @@
--- `encoder::write::clause3` meets its contract. Assumes nothing.
+-- `clause3` meets its contract. Assumes nothing.
 use borrow.Author.Needs.{needs}
 use mir.Facts.{toZ-ofZ}
-use Rattle.encoder.proofs.Pieces.{wrote-then}
+use Rattle.encoder.proofs.OneAfterAnother.{wrote-then}
 use Rattle.encoder.proofs.write.clause3.Statement.{statement}
 use Rattle.encoder.proofs.write.clause3.Tie as tie
 

@@ -1,7 +1,7 @@
--- `encoder::write::word` meets its contract. Assumes nothing.
+-- `word` meets its contract. Assumes nothing.
 use borrow.Author.Needs.{needs}
 use mir.Facts.{toZ-ofZ}
-use Rattle.encoder.proofs.Pieces.{wrote-word}
+use Rattle.encoder.proofs.OneAfterAnother.{wrote-word}
 use Rattle.encoder.proofs.write.word.Statement.{statement}
 use Rattle.encoder.proofs.write.word.Tie as tie
 

@@ -7,9 +7,20 @@ use lib.ListN.{length}
 use Rattle.meaning.specs.Limits.{job-limit}
 use Rattle.meaning.specs.JobFile.{job-header, job-words}
 use Rattle.job_file.specs.Promise.{job-answered, words-room}
-use Rattle.job_file.proofs.JobBytes.{good-length, length-words}
+use Rattle.job_file.proofs.JobChecks.{good-length}
+use Rattle.job_file.proofs.ReadWords.{length-words}
 use Rattle.job_file.proofs.job.read_job.Statement.{statement}
 use Rattle.job_file.proofs.job.read_job.Tie as tie
+
+-- The points: the bytes are checked, they are right, their words are read.
+abbrev start : tie.After-checked → tie.Start
+start c = c .before .before
+
+abbrev checking : tie.After-enum-told → tie.After-checked
+checking c = c .before .before
+
+abbrev right : tie.After-words2 → tie.After-enum-told
+right c = c .before .before .before
 
 checked-requires : tie.Need-checked-requires
 checked-requires c κs = search needs
@@ -22,8 +33,8 @@ enum-told c = search needs
 
 -- A job that is not refused has a header, and is within the limit.
 lengths : (c : tie.After-enum-told)
-    → (length (c .before .before .before .before .args .bytes .now) ≤ job-limit) × (job-header ≤ length (c .before .before .before .before .args .bytes .now))
-lengths c = good-length _ (sym (c .before .before .checked .ensures) ∙ ap job-answered (c .enum-told .given .1))
+    → let bytes = start (checking c) .args .bytes .now in (length bytes ≤ job-limit) × (job-header ≤ length bytes)
+lengths c = good-length _ (sym (checking c .checked .ensures) ∙ ap job-answered (c .enum-told .given .1))
 
 sub-count : tie.Need-sub-count
 sub-count c = lengths c .1
@@ -36,7 +47,7 @@ unfolding job-limit
 read-words-requires c κs = omega (arith, lengths (c .before))
 
 shared-slice-read-t16 : tie.Need-shared-slice-read-t16
-shared-slice-read-t16 c = omega (arith, lengths (c .before .before .before .before))
+shared-slice-read-t16 c = omega (arith, lengths (right (c .before)))
 
 cast-t17 : tie.Need-cast-t17
 cast-t17 c = omega (arith, c .shared-slice-known2 .given 0)
@@ -54,9 +65,9 @@ returns c =
 returns-2 : tie.Need-returns-2
 unfolding job-limit words-room job-words
 returns-2 c =
-    let told = c .before .before .before .before in
+    let told = right (c .before) in
     record {
-      answered = ap job-answered (sym (told .enum-told .given .1)) ∙ told .before .before .checked .ensures;
+      answered = ap job-answered (sym (told .enum-told .given .1)) ∙ checking told .checked .ensures;
       version = refl;
       counted = sym (length-words _ _);
       words = c .before .before .read-words .ensures;

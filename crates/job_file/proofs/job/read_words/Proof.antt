@@ -6,7 +6,7 @@ use native.Mathlib.Omega.{arith}
 use lib.ListN.{length, length-set}
 use Rattle.clauses.specs.Lists.{written}
 use Rattle.job_file.specs.Promise.{words-from}
-use Rattle.job_file.proofs.JobBytes.{word-written}
+use Rattle.job_file.proofs.ReadWords.{word-written}
 use Rattle.job_file.proofs.job.read_words.Statement.{statement}
 use Rattle.job_file.proofs.job.read_words.Tie as tie
 
@@ -16,6 +16,13 @@ Inv-loop bytes count out₀ i₀ out i =
 
 abbrev μ-loop : tie.MeasureT-loop
 μ-loop bytes count out₀ i₀ out i = count - i
+
+-- The points: a turn of the loop begins, its word is read.
+abbrev start : tie.At-loop Inv-loop μ-loop → tie.Start Inv-loop μ-loop
+start c = c .before .before .before
+
+abbrev turn : tie.After-number Inv-loop μ-loop → tie.At-loop Inv-loop μ-loop
+turn c = c .before .before
 
 loop-holds : tie.Need-loop-holds Inv-loop μ-loop
 loop-holds c = (omega arith, refl, refl)
@@ -43,11 +50,11 @@ loop-less c = omega arith
 
 loop-again : tie.Need-loop-again Inv-loop μ-loop
 loop-again c =
-    let now = c .before .before .loop in
-    let args = c .before .before .before .before .before .args in (
+    let now = turn c .loop in
+    let args = start (turn c) .args in (
       omega arith,
       simp length-set (now .inv .1),
-      rw (now .inv .2, c .number .ensures) (word-written (args .bytes .now) (args .out .now) (now .i) (omega arith)),
+      word-written (args .bytes .now) (args .out .now) (now .i) (omega arith) (now .inv .2) (c .number .ensures),
     )
 
 same-length : tie.Need-same-length Inv-loop μ-loop
@@ -55,7 +62,7 @@ same-length c = c .before .loop .inv .1
 
 returns : tie.Need-returns Inv-loop μ-loop
 returns c =
-    let ended : c .before .loop .i ≡ c .before .before .before .before .args .count = omega arith in
+    let ended : c .before .loop .i ≡ start (c .before) .args .count = omega arith in
     rw (← ended) (c .before .loop .inv .2)
 
 pub read-words-spec : {M : Type 1} → statement M

@@ -17,6 +17,10 @@ Inv-loop text at out₀ i₀ out i =
 abbrev μ-loop : tie.MeasureT-loop
 μ-loop text at out₀ i₀ out i = length text - i
 
+-- The point: a turn of the loop begins.
+abbrev turn : tie.After-shared-slice-known Inv-loop μ-loop → tie.At-loop Inv-loop μ-loop
+turn c = c .before .before
+
 loop-holds : tie.Need-loop-holds Inv-loop μ-loop
 loop-holds c = (omega arith, refl, rw add-zero (put-none _ _))
 
@@ -37,11 +41,11 @@ loop-less c = omega arith
 
 loop-again : tie.Need-loop-again Inv-loop μ-loop
 loop-again c =
-    let now = c .before .before .loop in
-    let args = c .before .before .before .args in (
+    let now = turn c .loop in
+    let start = turn c .before in (
       omega arith,
       simp length-set (now .inv .1),
-      put-next (args .text .now) (args .at) (now .i) (c .before .loop-test .taken) (c .before .before .before .pre) (now .inv .2),
+      put-next (start .args .text .now) (start .args .at) (now .i) (c .before .loop-test .taken) (start .pre) (now .inv .2),
     )
 
 add-result : tie.Need-add-result Inv-loop μ-loop
@@ -52,9 +56,10 @@ same-length c = c .before .loop .inv .1
 
 returns : tie.Need-returns Inv-loop μ-loop
 returns c =
-    let ended : c .before .loop .i ≡ length (c .before .before .args .text .now) = omega arith in
-    let whole : take (c .before .loop .i) (c .before .before .args .text .now) ≡ c .before .before .args .text .now = rw (ended, take-length) in
-    rw whole at (c .before .loop .inv .2)
+    let text = c .before .before .args .text .now in
+    let ended : c .before .loop .i ≡ length text = omega arith in
+    let all : take (c .before .loop .i) text ≡ text = rw (ended, take-length) in
+    rw all at (c .before .loop .inv .2)
 
 pub put-bytes-spec : {M : Type 1} → statement M
 put-bytes-spec =

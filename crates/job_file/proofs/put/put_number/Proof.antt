@@ -1,15 +1,33 @@
 -- `job_file::put::put_number` meets its contract. The loop's invariant: with the digits of `rest` put, the buffer is what it is to be.
 -- Assumes nothing.
 use mathlib.Core.Path.{_≡_, refl, _∙_}
-use Prim.Native.Nat.{_+_, _≤_}
+use mathlib.Core.List.{List}
+use Prim.Native.Nat.{ℕ, _+_, _-_, _/_, _%_, _≤_, _<_}
 use native.Mathlib.Omega.{arith}
-use lib.ListN.{length, length-set}
-use Rattle.meaning.specs.JobFile.{decimal}
+use lib.ListN.{length, set, length-set}
+use Rattle.meaning.specs.JobFile.{digit, decimal}
 use Rattle.job_file.specs.Text.{placed}
-use Rattle.job_file.proofs.Decimals.{length-one, length-more}
-use Rattle.job_file.proofs.Printing.{first-digit-placed, last-digit-placed}
+use Rattle.job_file.proofs.Decimals.{decimal-one, decimal-more, length-one, length-more}
+use Rattle.job_file.proofs.Buffers.{placed-one, placed-last}
 use Rattle.job_file.proofs.put.put_number.Statement.{statement}
 use Rattle.job_file.proofs.put.put_number.Tie as tie
+
+-- ════════ One digit ════════
+
+module _ (n at : ℕ) (o : List ℕ) (fits : at + length (decimal n) ≤ length o) where
+  last-digit-placed : 10 ≤ n
+      → placed (decimal (n / 10)) at (set o (at + length (decimal n) - 1) (digit (n % 10))) ≡ placed (decimal n) at o
+  last-digit-placed h =
+      let place : at + length (decimal n) - 1 ≡ at + length (decimal (n / 10)) = omega (arith, length-more n h) in
+      let inside : at + length (decimal (n / 10)) < length o = omega (arith, length-more n h) in
+      rw (place, decimal-more n h) (placed-last at o (decimal (n / 10)) (digit (n % 10)) inside)
+
+  first-digit-placed : n < 10 → set o at (digit n) ≡ placed (decimal n) at o
+  first-digit-placed h =
+      let inside : at < length o = omega (arith, length-one n h) in
+      rw (decimal-one n h) (placed-one (digit n) at o inside)
+
+-- ════════ The needs ════════
 
 abbrev Inv-loop : tie.InvT-loop
 Inv-loop n at out₀ end i₀ rest₀ out i rest =
@@ -21,6 +39,10 @@ Inv-loop n at out₀ end i₀ rest₀ out i rest =
 
 abbrev μ-loop : tie.MeasureT-loop
 μ-loop n at out₀ end i₀ rest₀ out i rest = rest
+
+-- The point: a turn of the loop begins.
+abbrev start : tie.At-loop Inv-loop μ-loop → tie.Start Inv-loop μ-loop
+start c = c .before .before .before
 
 digits-requires : tie.Need-digits-requires Inv-loop μ-loop
 digits-requires c κs = tt
@@ -49,7 +71,7 @@ loop-less c = omega arith
 loop-again : tie.Need-loop-again Inv-loop μ-loop
 loop-again c =
     let now = c .before .loop in
-    let args = c .before .before .before .before .args in
+    let args = start (c .before) .args in
     let shorter = length-more (now .rest) (c .loop-test .taken) in (
       omega arith,
       omega (arith, shorter),
@@ -73,7 +95,7 @@ same-length c = simp length-set (c .before .loop .inv .3)
 returns : tie.Need-returns Inv-loop μ-loop
 returns c =
     let now = c .before .loop in
-    let args = c .before .before .before .before .args in
+    let args = start (c .before) .args in
     record {
       after = omega arith;
       held = first-digit-placed (now .rest) (args .at) (now .out) (omega arith) (c .loop-test .left) ∙ now .inv .4;

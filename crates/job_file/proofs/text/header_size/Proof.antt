@@ -2,8 +2,8 @@
 use Prim.Native.Nat.{_≤_}
 use native.Mathlib.Omega.{arith}
 use borrow.Author.Needs.{needs}
-use Rattle.job_file.proofs.Decimals.{length-u64}
-use Rattle.job_file.proofs.Printing.{length-header}
+use Rattle.job_file.proofs.Decimals.{length-64-bits}
+use Rattle.job_file.proofs.TextLengths.{length-header}
 use Rattle.job_file.proofs.text.header_size.Statement.{statement}
 use Rattle.job_file.proofs.text.header_size.Tie as tie
 
@@ -15,7 +15,7 @@ digits-requires-2 c κs = search needs
 
 -- Each number has few digits.
 few : (c : tie.After-digits2) → (c .before .digits .result ≤ 20) × (c .digits2 .result ≤ 20)
-few c = omega (arith, c .before .digits .ensures, c .digits2 .ensures, length-u64 (c .before .before .args .variables) (omega arith), length-u64 (c .before .before .args .clauses) (omega arith))
+few c = omega (arith, c .before .digits .ensures, c .digits2 .ensures, length-64-bits (c .before .before .args .variables) (omega arith), length-64-bits (c .before .before .args .clauses) (omega arith))
 
 add-result : tie.Need-add-result
 add-result c = omega (arith, few c)

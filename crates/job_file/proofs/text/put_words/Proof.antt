@@ -4,13 +4,12 @@ use Prim.Native.Nat.{_-_, _≤_}
 use native.Mathlib.Omega.{arith}
 use lib.IntN.{pos}
 use lib.ListN.{length, getD, take}
-use lib.Seq.{take-length}
 use mir.Syntax.{w32}
 use mir.Val.{SFits}
 use Rattle.job_file.specs.Text.{words-text, Put}
 use Rattle.clauses.proofs.Signs.{word-is}
 use Rattle.job_file.proofs.Buffers.{put-none}
-use Rattle.job_file.proofs.Printing.{room-for-word, put-next-word}
+use Rattle.job_file.proofs.WordsText.{room-for-word, put-next-word, put-all-words}
 use Rattle.job_file.proofs.text.put_words.Statement.{statement}
 use Rattle.job_file.proofs.text.put_words.Tie as tie
 
@@ -20,6 +19,13 @@ Inv-loop cnf at out₀ next₀ i₀ out next i =
 
 abbrev μ-loop : tie.MeasureT-loop
 μ-loop cnf at out₀ next₀ i₀ out next i = length cnf - i
+
+-- The points: a turn of the loop begins, its word is read, its text is put.
+abbrev start : tie.At-loop Inv-loop μ-loop → tie.Start Inv-loop μ-loop
+start c = c .before .before
+
+abbrev turn : tie.After-put-word-arg Inv-loop μ-loop → tie.At-loop Inv-loop μ-loop
+turn c = c .before .before
 
 loop-holds : tie.Need-loop-holds Inv-loop μ-loop
 loop-holds c = (omega arith, refl, put-none _ _)
@@ -32,15 +38,15 @@ shared-slice-copy-out-put-word c = omega arith
 
 -- The word that was read, as the slice has it.
 read-fits : (c : tie.After-put-word-arg Inv-loop μ-loop)
-    → SFits w32 (getD (c .before .before .before .before .args .cnf .now) (c .before .before .loop .i) (pos 0))
+    → SFits w32 (getD (start (turn c) .args .cnf .now) (turn c .loop .i) (pos 0))
 read-fits c = record { sfits = c .put-word-arg .given }
 
 put-word-requires : tie.Need-put-word-requires Inv-loop μ-loop
 put-word-requires c κs =
-    let now = c .before .before .before .loop in
-    let start = c .before .before .before .before .before in
+    let t = turn (c .before) in
+    let s = start t in
     rw (word-is _ (read-fits (c .before)))
-    (room-for-word (start .args .cnf .now) (now .i) (c .before .before .loop-test .taken) (start .pre) (now .inv .2))
+    (room-for-word (s .args .cnf .now) (t .loop .i) (c .before .before .loop-test .taken) (s .pre) (t .loop .inv .2))
 
 add-i : tie.Need-add-i Inv-loop μ-loop
 add-i c = omega arith
@@ -50,23 +56,21 @@ loop-less c = omega arith
 
 loop-again : tie.Need-loop-again Inv-loop μ-loop
 loop-again c =
-    let arg = c .before .before .before .before in
-    let now = arg .before .before .loop in
-    let start = arg .before .before .before .before in
-    let next = rw (word-is _ (read-fits arg)) at (c .before .before .put-word .ensures) in (
+    let put = c .before .before in
+    let read = put .before .before in
+    let t = turn read in
+    let s = start t in
+    let next = rw (word-is _ (read-fits read)) at (put .put-word .ensures) in (
       omega arith,
-      c .before .before .put-word .kept .1 .1 .0 ∙ now .inv .1,
-      put-next-word (start .args .cnf .now) (now .i) (arg .before .loop-test .taken) (start .pre) (now .inv .2) next,
+      put .put-word .kept .1 .1 .0 ∙ t .loop .inv .1,
+      put-next-word (s .args .cnf .now) (t .loop .i) (read .before .loop-test .taken) (s .pre) (t .loop .inv .2) next,
     )
 
 same-length : tie.Need-same-length Inv-loop μ-loop
 same-length c = c .before .loop .inv .1
 
 returns : tie.Need-returns Inv-loop μ-loop
-returns c =
-    let ended : c .before .loop .i ≡ length (c .before .before .before .args .cnf .now) = omega arith in
-    let whole : take (c .before .loop .i) (c .before .before .before .args .cnf .now) ≡ c .before .before .before .args .cnf .now = rw (ended, take-length) in
-    rw whole at (c .before .loop .inv .2)
+returns c = let now = c .before .loop in put-all-words (start (c .before) .args .cnf .now) (now .i) (omega arith) (now .inv .2)
 
 pub put-words-spec : {M : Type 1} → statement M
 put-words-spec =

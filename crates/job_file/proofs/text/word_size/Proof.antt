@@ -6,10 +6,17 @@ use lib.ListN.{length}
 use Rattle.clauses.specs.Clauses.{variable-of}
 use Rattle.meaning.specs.JobFile.{decimal}
 use Rattle.clauses.proofs.Signs.{word-is, at-0, not-0}
-use Rattle.job_file.proofs.Decimals.{length-u64}
-use Rattle.job_file.proofs.Printing.{length-0, length-negative, length-positive}
+use Rattle.job_file.proofs.Decimals.{length-64-bits}
+use Rattle.job_file.proofs.WordText.{length-0, length-negative, length-positive}
 use Rattle.job_file.proofs.text.word_size.Statement.{statement}
 use Rattle.job_file.proofs.text.word_size.Tie as tie
+
+-- The points: the word is negative, or positive, and its digits are counted.
+abbrev start1 : tie.After-digits → tie.Start
+start1 c = c .before .before .before .before
+
+abbrev start2 : tie.After-digits2 → tie.Start
+start2 c = c .before .before .before .before
 
 returns : tie.Need-returns
 returns c = sym (length-0 (c .before .args .w) (at-0 _ (c .before .fits .w) (c .if1 .taken)))
@@ -21,11 +28,11 @@ digits-requires : tie.Need-digits-requires
 digits-requires c κs = search needs
 
 add-result : tie.Need-add-result
-add-result c = omega (arith, c .digits .ensures, length-u64 (c .before .variable .result) (omega arith))
+add-result c = omega (arith, c .digits .ensures, length-64-bits (c .before .variable .result) (omega arith))
 
 returns-2 : tie.Need-returns-2
 returns-2 c =
-    let start = c .before .before .before .before in
+    let start = start1 c in
     let fits-back = word-is (start .args .w) (start .fits .w) in
     let shown : c .digits .result ≡ length (decimal (variable-of (start .args .w))) =
     c .digits .ensures ∙ ap (λ n. length (decimal n)) (c .before .variable .ensures ∙ ap variable-of fits-back) in
@@ -38,11 +45,11 @@ digits-requires-2 : tie.Need-digits-requires-2
 digits-requires-2 c κs = search needs
 
 add-result-2 : tie.Need-add-result-2
-add-result-2 c = omega (arith, c .digits2 .ensures, length-u64 (c .before .variable2 .result) (omega arith))
+add-result-2 c = omega (arith, c .digits2 .ensures, length-64-bits (c .before .variable2 .result) (omega arith))
 
 returns-3 : tie.Need-returns-3
 returns-3 c =
-    let start = c .before .before .before .before in
+    let start = start2 c in
     let fits-back = word-is (start .args .w) (start .fits .w) in
     let shown : c .digits2 .result ≡ length (decimal (variable-of (start .args .w))) =
     c .digits2 .ensures ∙ ap (λ n. length (decimal n)) (c .before .variable2 .ensures ∙ ap variable-of fits-back) in

@@ -8,7 +8,7 @@ use lib.Seq.{take-length}
 use Rattle.job_file.specs.Text.{word-text, words-text}
 use Rattle.job_file.specs.Promise.{size}
 use Rattle.clauses.proofs.Signs.{word-is}
-use Rattle.job_file.proofs.Printing.{size-more}
+use Rattle.job_file.proofs.WordsText.{size-more}
 use Rattle.job_file.proofs.text.words_size.Statement.{statement}
 use Rattle.job_file.proofs.text.words_size.Tie as tie
 
@@ -17,6 +17,10 @@ Inv-loop cnf bytes₀ i₀ bytes i = (i ≤ length cnf) × (bytes ≡ size (word
 
 abbrev μ-loop : tie.MeasureT-loop
 μ-loop cnf bytes₀ i₀ bytes i = length cnf - i
+
+-- The point: a turn of the loop begins.
+abbrev turn : tie.After-word-size-arg Inv-loop μ-loop → tie.At-loop Inv-loop μ-loop
+turn c = c .before .before
 
 loop-holds : tie.Need-loop-holds Inv-loop μ-loop
 loop-holds c = omega arith
@@ -41,20 +45,22 @@ loop-less c = omega arith
 
 loop-again : tie.Need-loop-again Inv-loop μ-loop
 loop-again c =
-    let now = c .before .before .before .before .loop in
-    let cnf = c .before .before .before .before .before .args .cnf .now in
-    let read = word-is (getD cnf (now .i) (pos 0)) (record { sfits = c .before .before .word-size-arg .given }) in (
+    let read = c .before .before in
+    let t = turn read in
+    let cnf = t .before .args .cnf .now in
+    let word = word-is (getD cnf (t .loop .i) (pos 0)) (record { sfits = read .word-size-arg .given }) in (
       omega arith,
       c .sum .ensures
-          ∙ size-more cnf (now .i) (c .before .before .before .loop-test .taken) (now .bytes) (c .before .word-size .result) (now .inv .1)
-          (c .before .word-size .ensures ∙ ap (λ w. length (word-text w)) read),
+          ∙ size-more cnf (t .loop .i) (read .before .loop-test .taken) (t .loop .bytes) (c .before .word-size .result) (t .loop .inv .1)
+          (c .before .word-size .ensures ∙ ap (λ w. length (word-text w)) word),
     )
 
 returns : tie.Need-returns Inv-loop μ-loop
 returns c =
-    let ended : c .before .loop .i ≡ length (c .before .before .args .cnf .now) = omega arith in
-    let whole : take (c .before .loop .i) (c .before .before .args .cnf .now) ≡ c .before .before .args .cnf .now = rw (ended, take-length) in
-    rw whole at (c .before .loop .inv .1)
+    let cnf = c .before .before .args .cnf .now in
+    let ended : c .before .loop .i ≡ length cnf = omega arith in
+    let all : take (c .before .loop .i) cnf ≡ cnf = rw (ended, take-length) in
+    rw all at (c .before .loop .inv .1)
 
 pub words-size-spec : {M : Type 1} → statement M
 words-size-spec =

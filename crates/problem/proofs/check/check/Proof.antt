@@ -1,88 +1,88 @@
 -- `check` meets its contract: each answer is that of the first part that refuses. Assumes nothing.
 use borrow.Author.Needs.{needs}
-use Rattle.meaning.specs.Check.{opening-checks}
-use Rattle.problem.specs.declared.Checked.the-variants.{Good}
-use Rattle.problem.specs.Promise.{AnsweredBy}
-use Rattle.problem.proofs.Answered.{granted-if-first, refuses-if-second}
-use Rattle.problem.proofs.Whole.{opened-if-good, refused-by-opening, refused-by-latches, refused-by-gates, answered-by-nodes}
+use mathlib.Core.List.{List}
+use mathlib.Core.Path.{_≡_}
+use Prim.Native.Nat.{ℕ}
+use Rattle.problem.specs.declared.check.PartAnswer.the-variants.{Passed}
+use Rattle.problem.specs.CheckParts.{Answers}
+use Rattle.problem.proofs.Answered.{is-passed, answers-by}
+use Rattle.problem.proofs.Formed.{opening, in-limits-if-passed, fitting, refused-by-opening, refused-by-parts, good-by-parts}
 use Rattle.problem.proofs.check.check.Statement.{statement}
 use Rattle.problem.proofs.check.check.Tie as tie
 
--- Past the first test the opening's answer is the yes with the sizes that the test bound.
-opened : (c : tie.After-opened)
-    → AnsweredBy (opening-checks (c .before .before .before .before .args .version) (c .before .before .before .before .args .words .now))
-    (c .before .before .before .before .args .words .now) (Good (c .opened .given .0 .0))
-opened c = rw (c .opened .given .1) at (c .before .before .opening .ensures)
+-- ════════ The points, and what is known there ════════
 
-opening-requires : tie.Need-opening-requires
-opening-requires c κs = search needs
+abbrev words : tie.After-then → List ℕ
+words c = c .before .before .before .before .args .words .now
 
-enum-known-opened : tie.Need-enum-known-opened
-enum-known-opened c = search needs
+abbrev version : tie.After-then → ℕ
+version c = c .before .before .before .before .args .version
+
+-- What the header and its limits answered.
+opened : (c : tie.After-then) → Answers (opening (version c) (words c)) (c .then .result)
+opened c = c .then .ensures _ _ (c .before .before .header .ensures) (c .before .limits .ensures)
+
+-- Past the first test they passed.
+passed : (c : tie.After-enum-told) → Answers (opening (version (c .before .before)) (words (c .before .before))) Passed
+passed c = answers-by (is-passed (c .before .before .then .result) (c .before .match .keys2)) (opened (c .before .before))
+
+-- ════════ The needs ════════
+
+header-requires : tie.Need-header-requires
+header-requires c κs = search needs
+
+limits-requires : tie.Need-limits-requires
+limits-requires c κs = search needs
+
+then-requires : tie.Need-then-requires
+then-requires c κs = search needs
+
+enum-known-opening : tie.Need-enum-known-opening
+enum-known-opening c = search needs
+
+returns : tie.Need-returns
+returns c = refused-by-opening _ _ (answers-by (c .before .opening .given .1) (opened (c .before .before .before)))
 
 enum-told : tie.Need-enum-told
 enum-told c = search needs
 
-returns : tie.Need-returns
-returns c =
-    let told = c .before in
-    refused-by-opening (told .before .opening .ensures) (refuses-if-second (told .before .opening .result) (told .match .keys2))
+outline-requires : tie.Need-outline-requires
+outline-requires c κs = in-limits-if-passed (version (c .before .before)) (words (c .before .before)) (passed c)
 
-latches-requires : tie.Need-latches-requires
-latches-requires c κs = opened-if-good _ (opened (c .before))
+parts-requires : tie.Need-parts-requires
+parts-requires c κs =
+    let told = c .before in
+    fitting (version (told .before .before)) (words (told .before .before)) (passed told) (c .outline .ensures)
 
 enum-told-2 : tie.Need-enum-told-2
 enum-told-2 c = search needs
 
-enum-told-3 : tie.Need-enum-told-3
-enum-told-3 c = search needs
+enum-known-f : tie.Need-enum-known-f
+enum-known-f c = search needs
 
 returns-2 : tie.Need-returns-2
 returns-2 c =
-    let told = c .before in
-    refused-by-latches (opened (told .before .before .before)) (told .before .latches .ensures) (refuses-if-second (told .before .latches .result) (told .match2 .keys2))
-
-gates-requires : tie.Need-gates-requires
-gates-requires c κs = opened-if-good _ (opened (c .before .before .before .before))
-
-enum-told-4 : tie.Need-enum-told-4
-enum-told-4 c = search needs
-
-enum-told-5 : tie.Need-enum-told-5
-enum-told-5 c = search needs
+    let known = c .before .before in
+    good-by-parts _ _ (passed (known .before .before)) (known .before .outline .ensures) (answers-by (is-passed (known .parts .result) (c .before .match2 .keys1)) (known .parts .ensures))
 
 returns-3 : tie.Need-returns-3
 returns-3 c =
-    let told2 = c .before in
-    let told = told2 .before .before .before in
-    refused-by-gates (opened (told .before .before .before)) (told .before .latches .ensures) (granted-if-first (told .before .latches .result) (told .match2 .keys1))
-    (told2 .before .gates .ensures) (refuses-if-second (told2 .before .gates .result) (told2 .match3 .keys2))
-
-nodes-requires : tie.Need-nodes-requires
-nodes-requires c κs = opened-if-good _ (opened (c .before .before .before .before .before .before .before))
-
-returns-4 : tie.Need-returns-4
-returns-4 c =
-    let told2 = c .before .before in
-    let told = told2 .before .before .before in
-    answered-by-nodes (opened (told .before .before .before)) (told .before .latches .ensures) (granted-if-first (told .before .latches .result) (told .match2 .keys1))
-    (told2 .before .gates .ensures) (granted-if-first (told2 .before .gates .result) (told2 .match3 .keys1)) (c .nodes .ensures)
+    let known = c .before .before .before in
+    refused-by-parts _ _ (passed (known .before .before)) (known .before .outline .ensures) (answers-by (c .before .f .given .1) (known .parts .ensures))
 
 pub check-spec : {M : Type 1} → statement M
 check-spec =
     tie.close
     (tie.spec
-    opening-requires
-    enum-known-opened
-    enum-told
+    header-requires
+    limits-requires
+    then-requires
+    enum-known-opening
     returns
-    latches-requires
+    enum-told
+    outline-requires
+    parts-requires
     enum-told-2
-    enum-told-3
+    enum-known-f
     returns-2
-    gates-requires
-    enum-told-4
-    enum-told-5
-    returns-3
-    nodes-requires
-    returns-4)
+    returns-3)

@@ -1,5 +1,7 @@
--- `gate_left` meets its contract: it reads the word at its place. Assumes nothing.
+-- `gate_left` meets its contract: the word at its place, and past the end what the problem's list has there. Assumes nothing.
 use borrow.Author.Needs.{needs}
+use mathlib.Core.Path.{sym, _∙_}
+use Rattle.problem.proofs.Outlines.{left-read, left-past}
 use Rattle.problem.proofs.read.gate_left.Statement.{statement}
 use Rattle.problem.proofs.read.gate_left.Tie as tie
 
@@ -10,7 +12,14 @@ word-at-requires : tie.Need-word-at-requires
 word-at-requires c κs = search needs
 
 returns : tie.Need-returns
-returns c = rw (c .word-at .ensures, c .before .gate-place .ensures)
+returns c =
+    let start = c .before .before .before .before .before in
+    rw (← (left-read (start .args .s) (start .args .words .now) (start .args .j) (c .before .before .if1 .taken)), ← (c .before .gate-place .ensures)) (c .word-at .ensures)
+
+returns-2 : tie.Need-returns-2
+returns-2 c =
+    let start = c .before .before .before in
+    sym (left-past (start .args .s) (start .args .words .now) (start .args .j) (c .if1 .left))
 
 pub gate-left-spec : {M : Type 1} → statement M
-gate-left-spec = tie.close (tie.spec gate-place-requires word-at-requires returns)
+gate-left-spec = tie.close (tie.spec gate-place-requires word-at-requires returns returns-2)

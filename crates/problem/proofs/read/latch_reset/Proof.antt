@@ -1,5 +1,7 @@
--- `latch_reset` meets its contract: it reads the word at its place. Assumes nothing.
+-- `latch_reset` meets its contract: the word at its place, and past the end what the problem's list has there. Assumes nothing.
 use borrow.Author.Needs.{needs}
+use mathlib.Core.Path.{sym, _∙_}
+use Rattle.problem.proofs.Outlines.{reset-read, reset-past}
 use Rattle.problem.proofs.read.latch_reset.Statement.{statement}
 use Rattle.problem.proofs.read.latch_reset.Tie as tie
 
@@ -13,7 +15,15 @@ word-at-requires : tie.Need-word-at-requires
 word-at-requires c κs = search needs
 
 returns : tie.Need-returns
-returns c = rw (c .word-at .ensures, c .before .latch-place .ensures)
+returns c =
+    let start = c .before .before .before .before .before in
+    rw (← (reset-read (start .args .s) (start .args .words .now) (start .args .i) (c .before .before .if1 .taken)), ← (c .before .latch-place .ensures)) (c .word-at .ensures)
+
+returns-2 : tie.Need-returns-2
+returns-2 c =
+    let start = c .before .before .before in
+    sym (reset-past (start .args .s) (start .args .words .now) (start .args .i) (c .if1 .left))
 
 pub latch-reset-spec : {M : Type 1} → statement M
-latch-reset-spec = tie.close (tie.spec latch-place-requires add-word-at word-at-requires returns)
+latch-reset-spec =
+    tie.close (tie.spec latch-place-requires add-word-at word-at-requires returns returns-2)

@@ -1,10 +1,15 @@
 -- `shape` meets its contract: each arm is the shape of its op. Assumes nothing.
-use Prim.Native.Nat.{_≤_, zero-le}
+use mathlib.Core.Path.{_≡_}
+use Prim.Native.Nat.{ℕ, suc, _≤_, zero-le}
+use native.Mathlib.Omega.{arith}
 use lib.ListN.{length, List·getD-eq-default}
 use Rattle.meaning.specs.Problem.{shapes, atom}
-use Rattle.problem.proofs.Words.{past}
 use Rattle.problem.proofs.read.shape.Statement.{statement}
 use Rattle.problem.proofs.read.shape.Tie as tie
+
+-- A number from k on that is not k is past it.
+past : {k n : ℕ} → k ≤ n → (n ≡ k → ⊥) → suc k ≤ n
+past l other = omega arith
 
 returns : tie.Need-returns
 returns c = rw (c .match .keys1)

@@ -3,11 +3,11 @@ use Prim.Native.Nat.{_+_, _≤_}
 use native.Mathlib.Omega.{arith}
 use borrow.Author.Needs.{needs}
 use lib.ListN.{length}
-use Rattle.refutation.proofs.RightWords.{cnf-right}
-use Rattle.refutation.proofs.Cleared.{cleared-older, numbers-after, clauses-room, clauses-after, standing-start}
+use Rattle.refutation.proofs.JudgeCounted.{cnf-right, cleared-older, numbers-after, clauses-room, clauses-after, standing-start}
 use Rattle.refutation.proofs.judge.judge_counted.Statement.{statement}
 use Rattle.refutation.proofs.judge.judge_counted.Tie as tie
 
+-- The points: the area by numbers is cleared, both are, the CNF is placed, the steps are judged, and both areas are cleared again.
 abbrev start : tie.After-clear → tie.Start
 start c = c .before .before .before .before
 
@@ -19,6 +19,15 @@ cleared-both c = c .before .before .before .before
 
 abbrev placed : tie.After-judge-steps-arg2 → tie.After-place-cnf
 placed c = c .before .before .before .before
+
+abbrev judged : tie.After-clear3 → tie.After-judge-steps
+judged c = c .before .before .before .before .before .before
+
+abbrev cleared-again : tie.After-clear-arg4 → tie.After-clear3
+cleared-again c = c .before .before .before
+
+abbrev entry : tie.After-clear2 → tie.Start
+entry c = start (cleared c)
 
 add-clear : tie.Need-add-clear
 add-clear c = search needs
@@ -34,22 +43,22 @@ clear-requires-2 c κs = search needs
 
 -- The needed words are there after the area by clauses is cleared.
 room : (c : tie.After-clear2)
-    → start (cleared c) .args .clauses + start (cleared c) .args .steps ≤ length (c .clear2 .last .0)
+    → entry c .args .clauses + entry c .args .steps ≤ length (c .clear2 .last .0)
 room c =
-    let s = start (cleared c) in
+    let s = entry c in
     clauses-room (s .args .clauses + s .args .steps) (s .args .places .now) (c .clear2 .last .0) (c .clear2 .ensures) (s .pre .1 .1 .1)
 
 place-cnf-requires : tie.Need-place-cnf-requires
 place-cnf-requires c κs =
     let d = c .before .before .before in
-    let s = start (cleared d) in
+    let s = entry d in
     (cnf-right (s .args .variables) (s .args .cnf .now) (s .pre .0 .0) .1, omega (arith, room d, s .pre .0 .1))
 
 judge-steps-requires : tie.Need-judge-steps-requires
 judge-steps-requires c κs =
     let p = placed c in
     let d = cleared-both p in
-    let s = start (cleared d) in
+    let s = entry d in
     let within = cnf-right (s .args .variables) (s .args .cnf .now) (s .pre .0 .0) .0 in (
       s .pre .1 .0 .0,
       (
@@ -68,7 +77,7 @@ clear-requires-3 : tie.Need-clear-requires-3
 clear-requires-3 c κs = search needs
 
 add-clear-4 : tie.Need-add-clear-4
-add-clear-4 c = add-clear-2 (c .before .before .before .before .before .before .before .before .before .before .before .before .before .before .before .before .before .before .before)
+add-clear-4 c = add-clear-2 (cleared-both (placed (judged (cleared-again c) .before)) .before)
 
 clear-requires-4 : tie.Need-clear-requires-4
 clear-requires-4 c κs = search needs
@@ -82,11 +91,11 @@ same-length-2 c = search needs
 returns : tie.Need-returns
 returns c =
     let again = c .before .before in
-    let first = again .before .before .before .before in
-    let j = first .before .before .before .before .before .before in
+    let first = cleared-again (again .before) in
+    let j = judged first in
     let p = placed (j .before) in
     let d = cleared-both p in
-    let s = start (cleared d) in (
+    let s = entry d in (
       j .judge-steps .ensures .0,
       (
         numbers-after (s .args .variables) (s .args .values .now) (cleared d .clear .last .0) (cleared d .clear .ensures)

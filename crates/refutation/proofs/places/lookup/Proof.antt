@@ -5,6 +5,9 @@ use borrow.Author.Needs.{needs}
 use Rattle.refutation.proofs.places.lookup.Statement.{statement}
 use Rattle.refutation.proofs.places.lookup.Tie as tie
 
+abbrev start : tie.After-shared-slice-known2 → tie.Start
+start c = c .before .before
+
 sub-from : tie.Need-sub-from
 sub-from c = search needs
 
@@ -15,10 +18,10 @@ shared-slice-read-from : tie.Need-shared-slice-read-from
 shared-slice-read-from c = search needs
 
 clause-at-requires : tie.Need-clause-at-requires
-clause-at-requires c κs = c .before .before .before .pre .1 .0 (omega arith)
+clause-at-requires c κs = start (c .before) .pre .1 .0 (omega arith)
 
 clause-at-requires-2 : tie.Need-clause-at-requires-2
-clause-at-requires-2 c κs = c .before .before .before .pre .1 .1 (omega arith)
+clause-at-requires-2 c κs = start (c .before) .pre .1 .1 (omega arith)
 
 returns : tie.Need-returns
 returns c = ((λ h. c .clause-at .ensures), (λ h. absurd (omega arith)))

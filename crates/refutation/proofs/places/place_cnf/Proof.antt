@@ -5,21 +5,24 @@ use native.Mathlib.Omega.{arith}
 use borrow.Author.Needs.{needs}
 use lib.ListN.{length}
 use lib.Seq.{take-length}
-use Rattle.refutation.proofs.ClausePlaces.{Placed, placed-none, placed-all, placed-room, placed-more}
+use Rattle.refutation.proofs.PlaceCnf.{ClausesPlaced, placed-none, placed-all, placed-room, placed-more}
 use Rattle.refutation.proofs.places.place_cnf.Statement.{statement}
 use Rattle.refutation.proofs.places.place_cnf.Tie as tie
 
 abbrev Inv-loop : tie.InvT-loop
-Inv-loop cnf area₀ i₀ n₀ area i n = Placed cnf i n area₀ area
+Inv-loop cnf area₀ i₀ n₀ area i n = ClausesPlaced cnf i n area₀ area
 
 abbrev μ-loop : tie.MeasureT-loop
 μ-loop cnf area₀ i₀ n₀ area i n = length cnf - i
+
+abbrev start : tie.At-loop Inv-loop μ-loop → tie.Start Inv-loop μ-loop
+start c = c .before .before
 
 -- The clause that begins at `i` has its word in the area.
 room : (c : tie.In-loop Inv-loop μ-loop) → c .before .loop .n < length (c .before .loop .area)
 room c =
     let s = c .before in
-    omega (arith, placed-room (s .loop .inv) (s .before .before .pre .0) (c .loop-test .taken))
+    omega (arith, placed-room (s .loop .inv) (start s .pre .0) (c .loop-test .taken))
 
 loop-holds : tie.Need-loop-holds Inv-loop μ-loop
 loop-holds c = placed-none _ _
@@ -45,7 +48,7 @@ loop-less c = search needs
 loop-again : tie.Need-loop-again Inv-loop μ-loop
 loop-again c =
     let s = c .before .before in
-    rw (c .clause-end .ensures .0) (placed-more (s .loop .inv) (s .before .before .pre .0) (c .before .loop-test .taken) (s .before .before .pre .1))
+    rw (c .clause-end .ensures .0) (placed-more (s .loop .inv) (start s .pre .0) (c .before .loop-test .taken) (start s .pre .1))
 
 same-length : tie.Need-same-length Inv-loop μ-loop
 same-length c = search needs

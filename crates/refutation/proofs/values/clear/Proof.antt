@@ -1,12 +1,12 @@
 -- `refutation::values::clear` meets its contract. The loop's invariant: the first `i` words are 0, and the others are as they were.
 -- Assumes nothing.
-use Prim.Native.Nat.{_≤_, _-_}
+use Prim.Native.Nat.{ℕ, _≤_, _-_}
 use mathlib.Core.Path.{_≡_, refl}
-use mathlib.Core.List.{_++_}
+use mathlib.Core.List.{List, _++_}
 use native.Mathlib.Omega.{arith}
 use borrow.Author.Fill.{fill-more}
-use lib.ListN.{length, drop, replicate, length-set}
-use Rattle.refutation.proofs.Marks.{cleared}
+use lib.ListN.{length, drop, replicate, length-replicate, length-set}
+use Rattle.clauses.specs.Lists.{written}
 use Rattle.refutation.proofs.values.clear.Statement.{statement}
 use Rattle.refutation.proofs.values.clear.Tie as tie
 
@@ -16,6 +16,9 @@ Inv-loop area₀ needed i₀ area i =
 
 abbrev μ-loop : tie.MeasureT-loop
 μ-loop area₀ needed i₀ area i = needed - i
+
+cleared : (n : ℕ) (before after : List ℕ) → after ≡ replicate n 0 ++ drop n before → after ≡ written (replicate n 0) before
+cleared n before after e = rw length-replicate e
 
 loop-holds : tie.Need-loop-holds Inv-loop μ-loop
 loop-holds c = (omega arith, refl, refl)

@@ -1,9 +1,24 @@
 -- `refutation::values::mark` meets its contract. Assumes nothing.
 use borrow.Author.Needs.{needs}
+use mathlib.Core.Bool.{true, false, true≢false}
+use mathlib.Core.Path.{_≡_, refl}
+use Prim.Native.Nat.{ℕ, _+_, _*_}
+use native.Mathlib.Nat.{not-suc-le-zero}
+use borrow.Author.Tests.{ltb-true}
+use lib.IntN.{ℤ, pos, negsuc}
+use lib.Signed.{ltZ}
+use Rattle.refutation.specs.Work.{mark-of}
 use mir.Facts.{toZ-ofZ}
-use Rattle.refutation.proofs.Marks.{mark-negative, mark-not-negative}
 use Rattle.refutation.proofs.values.mark.Statement.{statement}
 use Rattle.refutation.proofs.values.mark.Tie as tie
+
+mark-negative : (stamp : ℕ) (w : ℤ) → ltZ w (pos 0) ≡ true → 2 * stamp ≡ mark-of stamp w
+mark-negative stamp (pos n) e = absurd (not-suc-le-zero (ltb-true n 0 e))
+mark-negative stamp (negsuc n) e = refl
+
+mark-not-negative : (stamp : ℕ) (w : ℤ) → ltZ w (pos 0) ≡ false → 2 * stamp + 1 ≡ mark-of stamp w
+mark-not-negative stamp (pos n) e = refl
+mark-not-negative stamp (negsuc n) e = absurd (true≢false e)
 
 mul-result : tie.Need-mul-result
 mul-result c = search needs

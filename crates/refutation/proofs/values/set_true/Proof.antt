@@ -2,9 +2,12 @@
 use borrow.Author.Needs.{needs}
 use native.Mathlib.Omega.{arith}
 use Rattle.clauses.proofs.Signs.{word-is}
-use Rattle.refutation.proofs.Marks.{set-true-fits, set-true}
+use Rattle.refutation.proofs.SetTrue.{set-true-fits, set-true}
 use Rattle.refutation.proofs.values.set_true.Statement.{statement}
 use Rattle.refutation.proofs.values.set_true.Tie as tie
+
+abbrev start : tie.After-mark → tie.Start
+start c = c .before .before .before
 
 variable-requires : tie.Need-variable-requires
 variable-requires c κs = search needs
@@ -14,7 +17,7 @@ mark-requires c κs = search needs
 
 slice-write-area : tie.Need-slice-write-area
 slice-write-area c =
-    let s = c .before .before .before in
+    let s = start c in
     rw (c .before .variable .ensures, word-is (s .args .w) (s .fits .w)) (set-true-fits (s .args .w) (s .pre .1) (s .pre .2))
 
 mul-area : tie.Need-mul-area
@@ -25,7 +28,7 @@ same-length c = search needs
 
 returns : tie.Need-returns
 returns c =
-    let s = c .before .before .before in
+    let s = start c in
     rw (c .before .variable .ensures, c .mark .ensures, word-is (s .args .w) (s .fits .w)) (set-true (s .args .w) (s .pre .1) (s .pre .2))
 
 pub set-true-spec : {M : Type 1} → statement M

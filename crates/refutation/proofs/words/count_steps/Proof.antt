@@ -5,7 +5,7 @@ use mathlib.Core.Path.{_≡_, sym, _∙_}
 use Prim.Native.Nat.{suc, _+_, _-_, _≤_}
 use native.Mathlib.Omega.{arith}
 use borrow.Author.Tests.{not-true, not-false}
-use lib.IntN.{pos}
+use lib.IntN.{ℤ, pos}
 use lib.ListN.{length, getD}
 use mir.Syntax.{w32}
 use mir.Val.{SFits}
@@ -13,7 +13,7 @@ use Rattle.clauses.specs.Answers.{first-failing, granted}
 use Rattle.clauses.specs.Refutations.{word-right, refutation-checks, steps-of}
 use Rattle.clauses.proofs.Signs.{word-is, at-0, not-0}
 use Rattle.refutation.proofs.Scan.{rest, at-cut, at-end, at-wrong, at-right}
-use Rattle.refutation.proofs.StepCount.{tally, step-ended, step-left, tally-0, tally-other, part-of, reader, read-refutation}
+use Rattle.refutation.proofs.CountSteps.{tally, step-ended, step-left, tally-0, tally-other, part-of, reader, read-refutation}
 use Rattle.refutation.proofs.words.count_steps.Statement.{statement}
 use Rattle.refutation.proofs.words.count_steps.Tie as tie
 
@@ -27,6 +27,20 @@ Inv-loop variables clauses refutation limit steps₀ hints₀ open₀ i₀ steps
 abbrev μ-loop : tie.MeasureT-loop
 μ-loop variables clauses refutation limit steps₀ hints₀ open₀ i₀ steps hints «open» i = length refutation - i
 
+-- The points: a turn of the loop begins, its word is read, and it is tested.
+abbrev turn : tie.After-w Inv-loop μ-loop → tie.At-loop Inv-loop μ-loop
+turn c = c .before .before
+
+abbrev tested : tie.Joined2 Inv-loop μ-loop → tie.After-word-right Inv-loop μ-loop
+tested c = c .before .before
+
+abbrev entry : tie.After-w Inv-loop μ-loop → tie.Start Inv-loop μ-loop
+entry c = turn c .before
+
+-- The word that was read, as the slice has it.
+abbrev word-read : tie.After-w Inv-loop μ-loop → ℤ
+word-read c = getD (entry c .args .refutation .now) (turn c .loop .i) (pos 0)
+
 loop-holds : tie.Need-loop-holds Inv-loop μ-loop
 loop-holds c = (omega arith, omega arith, read-refutation _ _ _)
 
@@ -39,22 +53,21 @@ shared-slice-copy-out-w c = omega arith
 word-right-requires : tie.Need-word-right-requires Inv-loop μ-loop
 word-right-requires c κs = tt
 
--- The word that was read, as the slice has it.
-fits : (c : tie.After-w Inv-loop μ-loop) → SFits w32 (getD (c .before .before .before .args .refutation .now) (c .before .before .loop .i) (pos 0))
+fits : (c : tie.After-w Inv-loop μ-loop) → SFits w32 (word-read c)
 fits c = record { sfits = c .w .given }
 
-result-is : (c : tie.After-word-right Inv-loop μ-loop) →
+result-is : (c : tie.After-word-right Inv-loop μ-loop)
+    → let read = c .before in
     c .word-right .result
-    ≡ word-right (c .before .before .before .before .args .variables) (part-of (c .before .before .before .loop .hints))
-    (suc (c .before .before .before .before .args .clauses + c .before .before .before .loop .steps))
-    (getD (c .before .before .before .before .args .refutation .now) (c .before .before .before .loop .i) (pos 0))
+    ≡ word-right (entry read .args .variables) (part-of (turn read .loop .hints)) (suc (entry read .args .clauses + turn read .loop .steps)) (word-read read)
 result-is c = rw (word-is _ (fits (c .before))) at (c .word-right .ensures)
 
 returns : tie.Need-returns Inv-loop μ-loop
 returns c =
+    let v = c .before in
     sym
-    (c .before .before .before .before .loop .inv .2
-    ∙ at-wrong _ _ _ _ (c .before .before .before .loop-test .taken) (sym (result-is (c .before)) ∙ not-true _ (c .if1 .taken)))
+    (turn (v .before) .loop .inv .2
+    ∙ at-wrong _ _ _ _ (v .before .before .loop-test .taken) (sym (result-is v) ∙ not-true _ (c .if1 .taken)))
 
 add-steps : tie.Need-add-steps Inv-loop μ-loop
 add-steps c = omega arith
@@ -67,15 +80,16 @@ loop-less c = omega arith
 
 loop-again : tie.Need-loop-again Inv-loop μ-loop
 loop-again c =
-    let now = c .before .before .before .before .before .loop in
-    let w = getD (c .before .before .before .before .before .before .args .refutation .now) (now .i) (pos 0) in
+    let read = tested c .before in
+    let now = turn read .loop in
+    let w = word-read read in
     let t = tally (now .steps) (now .hints) (now .«open») in (
       omega arith,
       ⊎-elim (λ a. ⊎-elim (λ b. omega arith) (λ b. omega arith) (a .1 .came)) (λ a. omega arith) (c .if2 .came),
-      now .inv .2 ∙ at-right _ _ _ _ (c .before .before .before .before .loop-test .taken)
-          (sym (result-is (c .before .before)) ∙ not-false _ (c .before .if1 .left))
+      now .inv .2 ∙ at-right _ _ _ _ (read .before .loop-test .taken)
+          (sym (result-is (tested c)) ∙ not-false _ (c .before .if1 .left))
           (⊎-elim
-          (λ a. tally-0 t w (at-0 w (fits (c .before .before .before)) (a .0 .taken)) (a .2 ∙ ⊎-elim (λ b. step-ended t (b .0 .taken) (b .1)) (λ b. step-left t (b .0 .left) (b .1)) (a .1 .came)) (a .3) (a .4))
+          (λ a. tally-0 t w (at-0 w (fits read) (a .0 .taken)) (a .2 ∙ ⊎-elim (λ b. step-ended t (b .0 .taken) (b .1)) (λ b. step-left t (b .0 .left) (b .1)) (a .1 .came)) (a .3) (a .4))
           (λ a. tally-other t w (not-0 w (a .0 .left)) (a .1) (a .2) (a .3))
           (c .if2 .came)),
     )

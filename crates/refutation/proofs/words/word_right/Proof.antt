@@ -8,6 +8,10 @@ use Rattle.clauses.proofs.Signs.{word-is, at-0, not-0}
 use Rattle.refutation.proofs.words.word_right.Statement.{statement}
 use Rattle.refutation.proofs.words.word_right.Tie as tie
 
+-- The entry, from where the word is no 0 among hints.
+abbrev start : tie.Else2 → tie.Start
+start c = c .before .before
+
 returns : tie.Need-returns
 returns c = rw (c .before .if1 .taken, at-0 _ (c .before .before .fits .w) (c .if2 .taken))
 
@@ -15,7 +19,10 @@ names-earlier-requires : tie.Need-names-earlier-requires
 names-earlier-requires c κs = search needs
 
 returns-2 : tie.Need-returns-2
-returns-2 c = rw (c .before .before .if1 .taken, not-0 (c .before .before .before .args .w) (c .before .if2 .left)) (c .names-earlier .ensures ∙ ap (earlier (suc (c .before .before .before .args .clauses + c .before .before .before .args .steps))) (word-is _ (c .before .before .before .fits .w)))
+returns-2 c =
+    let s = start (c .before) in
+    rw (c .before .before .if1 .taken, not-0 (s .args .w) (c .before .if2 .left))
+    (c .names-earlier .ensures ∙ ap (earlier (suc (s .args .clauses + s .args .steps))) (word-is _ (s .fits .w)))
 
 variable-requires : tie.Need-variable-requires
 variable-requires c κs = search needs

@@ -1,43 +1,77 @@
 -- `closes` meets its contract: before each turn the latches passed close the loop. Assumes nothing.
 use mathlib.Core.Path.{_≡_, refl, _∙_, sym, ap₂}
-use mathlib.Core.Bool.{Bool·beq}
-use Prim.Native.Nat.{_-_}
+use mathlib.Core.Bool.{false, Bool·beq}
+use mathlib.Core.List.{List}
+use Prim.Native.Nat.{ℕ, _-_}
 use native.Mathlib.Omega.{arith}
-use lib.ListN.{length}
+use lib.ListN.{length, getD}
+use borrow.Author.Needs.{needs}
 use borrow.Author.Tests.{not-true, not-false}
+use Rattle.clauses.specs.Answers.{Check, check}
 use Rattle.meaning.specs.Limits.{inputs-limit, latches-limit, gates-limit, bound-limit}
-use Rattle.meaning.specs.Problem.{problem}
-use Rattle.meaning.specs.Witnesses.{loop-checks, shape, byte}
+use Rattle.meaning.specs.Answers.{open-loop}
+use Rattle.meaning.specs.Problem.{Problem}
+use Rattle.meaning.specs.Runs.{next-values}
+use Rattle.meaning.specs.Witnesses.{position, loop-checks, shape, byte}
+use Rattle.problem.specs.Promise.{problem-in}
+use Rattle.problem.proofs.Outlines.{Shows, shows}
 use Rattle.witness.specs.Tables.{row-width}
-use Rattle.witness.proofs.Sizing.{sizes-read}
-use Rattle.witness.proofs.Checking.{Rests, none-yet, pass-one, fail-one, pass-all, from-number, number-none, number-first, numbers-end, loop-check, shape-later, latch-there, next-at-end}
+use Rattle.witness.proofs.Checks.{PassedUpTo, none-yet, pass-one, fail-one, pass-all, from-number, number-none, number-first, numbers-end}
+use Rattle.witness.proofs.ShownRun.{shape-later, latch-there, next-at-end}
 use Rattle.witness.proofs.bytes.closes.Statement.{statement}
 use Rattle.witness.proofs.bytes.closes.Tie as tie
 
+abbrev loop-check : Problem → List ℕ → ℕ → ℕ → Check
+loop-check p bs l i =
+    check (Bool·beq (getD (next-values p (position p bs (p .bound))) i false) (getD (position p bs l .latches) i false)) (open-loop i)
+
 abbrev Inv-loop : tie.InvT-loop
 Inv-loop words s witness table first from i₀ i =
-    Rests (loop-checks (problem words) witness (shape witness)) (from-number (loop-check (problem words) witness (first - 1)) (length (problem words .latches)) i)
+    PassedUpTo (loop-checks (problem-in s words) witness (shape witness))
+    (from-number (loop-check (problem-in s words) witness (first - 1)) (length (problem-in s words .latches)) i)
 
 abbrev μ-loop : tie.MeasureT-loop
 μ-loop words s witness table first from i₀ i = s .latches - i
 
+-- ════════ The points ════════
+
+abbrev start : tie.Else1 Inv-loop μ-loop → tie.Start Inv-loop μ-loop
+start c = c .before .before .before .before .before
+
+abbrev loop-start : tie.At-loop Inv-loop μ-loop → tie.Start Inv-loop μ-loop
+loop-start l = start (l .before .before)
+
+abbrev loop-of : tie.Then2 Inv-loop μ-loop → tie.At-loop Inv-loop μ-loop
+loop-of c = c .before .before
+
+abbrev turn : tie.After-same Inv-loop μ-loop → tie.Then2 Inv-loop μ-loop
+turn c = c .before .before .before
+
+abbrev problem-at : tie.Start Inv-loop μ-loop → Problem
+problem-at c = problem-in (c .args .s) (c .args .words .now)
+
+abbrev first-byte : tie.Start Inv-loop μ-loop → ℕ
+first-byte c = byte (c .args .witness .now) 0
+
+sizes : (c : tie.Start Inv-loop μ-loop) → Shows (c .args .s) (problem-at c)
+sizes c = shows (c .args .s) (c .args .words .now)
+
+-- ════════ One latch ════════
+
 -- What the code tests is what document 01 checks.
 met : (c : tie.After-same Inv-loop μ-loop)
     → c .same .result
-    ≡ loop-check (problem (c .before .before .before .before .before .before .before .before .before .before .before .before .args .words .now))
-    (c .before .before .before .before .before .before .before .before .before .before .before .before .args .witness .now)
-    (byte (c .before .before .before .before .before .before .before .before .before .before .before .before .args .witness .now) 0 - 1)
-    (c .before .before .before .before .before .loop .i) .passes
+    ≡ loop-check (problem-at (loop-start (loop-of (turn c)))) (loop-start (loop-of (turn c)) .args .witness .now) (first-byte (loop-start (loop-of (turn c))) - 1)
+    (loop-of (turn c) .loop .i) .passes
 unfolding inputs-limit latches-limit gates-limit row-width
 met c =
-    let next = c .before .before in
-    let turn = next .before in
-    let i = turn .before .before .loop .i in
-    let start = turn .before .before .before .before .before .before .before .before .before in
-    let sizes = sizes-read (start .pre .ready) in
-    let value = next-at-end (start .pre) i (turn .if2 .taken) in
-    let there = latch-there (start .pre) (byte (start .args .witness .now) 0 - 1) i (omega (arith, start .pre .start-within)) (turn .if2 .taken) in
-    c .same .ensures ∙ ap₂ Bool·beq (next .next-value .ensures ∙ value) there
+    let l = loop-of (turn c) in
+    let s = loop-start l in
+    let i = l .loop .i in
+    let there = latch-there (s .pre) (first-byte s - 1) i (omega (arith, s .pre .start-within)) (turn c .if2 .taken) in
+    c .same .ensures ∙ ap₂ Bool·beq (c .before .before .next-value .ensures ∙ next-at-end (s .pre) i (turn c .if2 .taken)) there
+
+-- ════════ The needs ════════
 
 shared-slice-read-first : tie.Need-shared-slice-read-first Inv-loop μ-loop
 shared-slice-read-first c = omega (arith, c .before .before .before .before .pre .long)
@@ -53,108 +87,81 @@ sub-from c = let some = c .if1 .left in omega arith
 
 mul-from : tie.Need-mul-from Inv-loop μ-loop
 unfolding bound-limit
-mul-from c =
-    let start = c .before .before .before .before .before in
-    let sizes = sizes-read (start .pre .ready) in
-    omega (arith, start .pre .ready .proper, start .pre .start-within)
+mul-from c = let z = sizes (start c) in omega (arith, start c .pre .good .proper, start c .pre .start-within)
 
 add-from : tie.Need-add-from Inv-loop μ-loop
 unfolding bound-limit
-add-from c =
-    let start = c .before .before .before .before .before in
-    let sizes = sizes-read (start .pre .ready) in
-    omega (arith, start .pre .ready .proper, start .pre .start-within)
+add-from c = let z = sizes (start c) in omega (arith, start c .pre .good .proper, start c .pre .start-within)
 
 cast-from : tie.Need-cast-from Inv-loop μ-loop
-unfolding inputs-limit
-cast-from c =
-    let start = c .before .before .before .before .before .before in
-    let sizes = sizes-read (start .pre .ready) in
-    omega (arith, start .pre .ready .proper)
+cast-from c = search needs
 
 add-from-2 : tie.Need-add-from-2 Inv-loop μ-loop
 unfolding inputs-limit bound-limit
 add-from-2 c =
-    let start = c .before .before .before .before .before .before in
-    let sizes = sizes-read (start .pre .ready) in
-    omega (arith, start .pre .ready .proper, start .pre .start-within)
+    let s = start (c .before) in
+    let z = sizes s in
+    omega (arith, s .pre .good .proper, s .pre .start-within)
 
 loop-holds : tie.Need-loop-holds Inv-loop μ-loop
 loop-holds c =
-    let start = c .before .before .before .before .before .before in
-    let p = problem (start .args .words .now) in
-    let bs = start .args .witness .now in
-    rw (shape-later (byte bs 0) (c .before .if1 .left)) (number-none (loop-check p bs (byte bs 0 - 1)) (length (p .latches)))
+    let s = start (c .before) in
+    rw (shape-later (first-byte s) (c .before .if1 .left))
+    (number-none (loop-check (problem-at s) (s .args .witness .now) (first-byte s - 1)) (length (problem-at s .latches)))
 
 cast-at : tie.Need-cast-at Inv-loop μ-loop
-unfolding latches-limit
-cast-at c =
-    let start = c .before .before .before .before .before .before .before .before .before in
-    let sizes = sizes-read (start .pre .ready) in
-    omega (arith, start .pre .ready .proper)
+cast-at c = search needs
 
 add-at : tie.Need-add-at Inv-loop μ-loop
 unfolding inputs-limit latches-limit bound-limit
 add-at c =
-    let start = c .before .before .before .before .before .before .before .before .before in
-    let sizes = sizes-read (start .pre .ready) in
-    omega (arith, start .pre .ready .proper, start .pre .start-within)
+    let s = loop-start (loop-of c) in
+    let z = sizes s in
+    omega (arith, s .pre .good .proper, s .pre .start-within)
 
 next-value-requires : tie.Need-next-value-requires Inv-loop μ-loop
 unfolding inputs-limit latches-limit gates-limit row-width bound-limit
 next-value-requires c κs =
-    let start = c .before .before .before .before .before .before .before .before .before in
-    let sizes = sizes-read (start .pre .ready) in
-    (start .pre .ready, c .if2 .taken, omega (arith, start .pre .ready .proper, start .pre .right .room))
+    let s = loop-start (loop-of c) in
+    let z = sizes s in
+    omega (arith, s .pre .good .proper, s .pre .right .room)
 
 shared-slice-read-same : tie.Need-shared-slice-read-same Inv-loop μ-loop
 unfolding inputs-limit latches-limit gates-limit row-width bound-limit
 shared-slice-read-same c =
-    let start = c .before .before .before .before .before .before .before .before .before .before .before in
-    let sizes = sizes-read (start .pre .ready) in
-    omega (arith, start .pre .ready .proper, start .pre .start-within, start .pre .right .room)
+    let s = loop-start (loop-of (c .before .before)) in
+    let z = sizes s in
+    omega (arith, s .pre .good .proper, s .pre .start-within, s .pre .right .room)
 
 same-requires : tie.Need-same-requires Inv-loop μ-loop
 same-requires c κs = tt
 
 cast-t22 : tie.Need-cast-t22 Inv-loop μ-loop
-unfolding latches-limit
-cast-t22 c =
-    let start = c .before .before .before .before .before .before .before .before .before .before .before .before .before in
-    let sizes = sizes-read (start .pre .ready) in
-    omega (arith, start .pre .ready .proper)
+cast-t22 c = search needs
 
 returns-2 : tie.Need-returns-2 Inv-loop μ-loop
 returns-2 c =
-    let turn = c .before .before .before .before in
-    let start = turn .before .before .before .before .before .before .before .before .before in
-    let loop = turn .before .before .loop in
-    let sizes = sizes-read (start .pre .ready) in
-    fail-one (loop .inv) (number-first _ _ (loop .i) (omega arith)) (sym (met (c .before)) ∙ not-true _ (c .if3 .taken)) (λ after. refl)
+    let l = loop-of (turn (c .before)) in
+    let z = sizes (loop-start l) in
+    fail-one (l .loop .inv) (number-first _ _ (l .loop .i) (omega arith)) (sym (met (c .before)) ∙ not-true _ (c .if3 .taken)) (λ after. refl)
 
 add-i : tie.Need-add-i Inv-loop μ-loop
-unfolding latches-limit
-add-i c =
-    let start = c .before .before .before .before .before .before .before .before .before .before .before .before .before in
-    let sizes = sizes-read (start .pre .ready) in
-    omega (arith, start .pre .ready .proper)
+add-i c = search needs
 
 loop-less : tie.Need-loop-less Inv-loop μ-loop
 loop-less c = omega arith
 
 loop-again : tie.Need-loop-again Inv-loop μ-loop
 loop-again c =
-    let turn = c .before .before .before .before in
-    let start = turn .before .before .before .before .before .before .before .before .before in
-    let loop = turn .before .before .loop in
-    let sizes = sizes-read (start .pre .ready) in
-    pass-one (loop .inv) (number-first _ _ (loop .i) (omega arith)) (sym (met (c .before)) ∙ not-false _ (c .if3 .left))
+    let l = loop-of (turn (c .before)) in
+    let z = sizes (loop-start l) in
+    pass-one (l .loop .inv) (number-first _ _ (l .loop .i) (omega arith)) (sym (met (c .before)) ∙ not-false _ (c .if3 .left))
 
 returns-3 : tie.Need-returns-3 Inv-loop μ-loop
 returns-3 c =
-    let start = c .before .before .before .before .before .before .before .before .before in
-    let sizes = sizes-read (start .pre .ready) in
-    pass-all (c .before .before .loop .inv) (numbers-end _ _ (c .before .before .loop .i) (omega arith))
+    let l = c .before .before in
+    let z = sizes (loop-start l) in
+    pass-all (l .loop .inv) (numbers-end _ _ (l .loop .i) (omega arith))
 
 pub closes-spec : {M : Type 1} → statement M
 closes-spec =

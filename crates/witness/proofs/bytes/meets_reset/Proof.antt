@@ -1,8 +1,16 @@
--- `meets_reset` meets its contract. Assumes nothing.
-use Rattle.witness.proofs.Checking.{free}
+-- `meets_reset` meets its contract: a reset that is not 0 or 1 is free. Assumes nothing.
+use mathlib.Core.Path.{_≡_, refl}
+use mathlib.Core.Bool.{Bool, true}
+use Prim.Native.Nat.{ℕ, zero, suc}
+use Rattle.meaning.specs.Runs.{meets-reset}
 use borrow.Author.Needs.{needs}
 use Rattle.witness.proofs.bytes.meets_reset.Statement.{statement}
 use Rattle.witness.proofs.bytes.meets_reset.Tie as tie
+
+free : (r : ℕ) (b : Bool) → (r ≡ 0 → ⊥) → (r ≡ 1 → ⊥) → true ≡ meets-reset r b
+free zero b not-0 not-1 = absurd (not-0 refl)
+free (suc zero) b not-0 not-1 = absurd (not-1 refl)
+free (suc (suc r)) b not-0 not-1 = refl
 
 returns : tie.Need-returns
 returns c = search needs

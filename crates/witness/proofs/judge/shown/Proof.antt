@@ -1,11 +1,14 @@
 -- `shown` meets its contract: the loop, then the formula. Assumes nothing.
 use mathlib.Core.Path.{refl, sym, _∙_}
 use borrow.Author.Tests.{not-true, not-false}
-use Rattle.witness.proofs.Checking.{none-yet, fail-one, after-one, pass-all}
+use Rattle.witness.proofs.Checks.{none-yet, fail-one, after-one, pass-all}
 use Rattle.witness.proofs.Judging.{yes-if-first, refuses-if-later, refused-first, yes-first}
 use borrow.Author.Needs.{needs}
 use Rattle.witness.proofs.judge.shown.Statement.{statement}
 use Rattle.witness.proofs.judge.shown.Tie as tie
+
+abbrev closed : tie.After-shown-value → tie.At-match-keys1
+closed c = c .before .before
 
 closes-requires : tie.Need-closes-requires
 closes-requires c κs = search needs
@@ -21,14 +24,14 @@ shown-value-requires c κs = search needs
 
 returns-2 : tie.Need-returns-2
 returns-2 c =
-    let told = c .before .before .before in
-    yes-first _ _ (yes-if-first (told .before .closes .result) (told .match .keys1)) (told .before .closes .ensures)
+    let yes = closed (c .before) in
+    yes-first _ _ (yes-if-first (yes .before .closes .result) (yes .match .keys1)) (yes .before .closes .ensures)
     (fail-one none-yet refl (sym (c .before .shown-value .ensures) ∙ not-true _ (c .if1 .taken)) (λ after. refl))
 
 returns-3 : tie.Need-returns-3
 returns-3 c =
-    let told = c .before .before .before in
-    yes-first _ _ (yes-if-first (told .before .closes .result) (told .match .keys1)) (told .before .closes .ensures)
+    let yes = closed (c .before) in
+    yes-first _ _ (yes-if-first (yes .before .closes .result) (yes .match .keys1)) (yes .before .closes .ensures)
     (after-one (sym (c .before .shown-value .ensures) ∙ not-false _ (c .if1 .left)) (pass-all none-yet refl))
 
 pub shown-spec : {M : Type 1} → statement M

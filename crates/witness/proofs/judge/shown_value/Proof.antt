@@ -1,10 +1,12 @@
 -- `shown_value` meets its contract: the first byte gives the shape. Assumes nothing.
 use Rattle.meaning.specs.Witnesses.{byte}
-use Rattle.witness.proofs.Sizing.{sizes-read}
-use Rattle.witness.proofs.Checking.{shape-later}
+use Rattle.witness.proofs.ShownRun.{shape-later, run-right}
 use borrow.Author.Needs.{needs}
 use Rattle.witness.proofs.judge.shown_value.Statement.{statement}
 use Rattle.witness.proofs.judge.shown_value.Tie as tie
+
+abbrev start : tie.After-shared-slice-known4 → tie.Start
+start c = c .before .before .before .before
 
 shared-slice-read-first : tie.Need-shared-slice-read-first
 shared-slice-read-first c = search needs
@@ -17,9 +19,8 @@ formula-value-requires c κs = search needs
 
 returns : tie.Need-returns
 returns c =
-    let start = c .before .before .before .before .before .before in
-    let sizes = sizes-read (start .pre .ready) in
-    rw (c .before .if1 .taken) (c .formula-value .ensures (start .args .witness .now) (rw (sizes .bound-is) at (start .pre .right)))
+    let s = start (c .before .before) in
+    rw (c .before .if1 .taken) (c .formula-value .ensures (s .args .witness .now) (run-right (s .pre)))
 
 sub-formula-value : tie.Need-sub-formula-value
 sub-formula-value c = search needs
@@ -29,10 +30,9 @@ formula-value-requires-2 c κs = search needs
 
 returns-2 : tie.Need-returns-2
 returns-2 c =
-    let start = c .before .before .before .before .before .before in
-    let sizes = sizes-read (start .pre .ready) in
-    rw (shape-later (byte (start .args .witness .now) 0) (c .before .if1 .left))
-    (c .formula-value2 .ensures (start .args .witness .now) (rw (sizes .bound-is) at (start .pre .right)))
+    let s = start (c .before .before) in
+    rw (shape-later (byte (s .args .witness .now) 0) (c .before .if1 .left))
+    (c .formula-value2 .ensures (s .args .witness .now) (run-right (s .pre)))
 
 pub shown-value-spec : {M : Type 1} → statement M
 shown-value-spec =

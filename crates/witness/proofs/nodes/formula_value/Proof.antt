@@ -4,11 +4,21 @@ use native.Mathlib.Omega.{arith}
 use lib.ListN.{length-replicate}
 use borrow.Author.Needs.{needs}
 use Rattle.meaning.specs.Limits.{nodes-limit, bound-limit}
+use Rattle.problem.proofs.Outlines.{nodes-some}
 use Rattle.witness.specs.Tables.{positions-limit}
-use Rattle.witness.proofs.Sizing.{sizes-read}
-use Rattle.witness.proofs.NodeReading.{tables-given, formula-from}
+use Rattle.witness.proofs.FormulaValue.{tables-given, formula-from}
 use Rattle.witness.proofs.nodes.formula_value.Statement.{statement}
 use Rattle.witness.proofs.nodes.formula_value.Tie as tie
+
+-- ════════ The points ════════
+
+abbrev start : tie.After-all-values → tie.Start
+start c = c .before .before .before .before
+
+abbrev values-of : tie.After-struct-known → tie.After-all-values
+values-of c = c .before .before .before
+
+-- ════════ The needs ════════
 
 slice-aggregate-all-values : tie.Need-slice-aggregate-all-values
 slice-aggregate-all-values c = search needs
@@ -21,15 +31,15 @@ slice-aggregate-value-at : tie.Need-slice-aggregate-value-at
 slice-aggregate-value-at c = search needs
 
 sub-value-at : tie.Need-sub-value-at
-sub-value-at c =
-    let ready = c .before .before .before .before .before .before .before .pre .ready in
-    omega (arith, sizes-read ready .nodes-are, ready .proper .nodes-some)
+sub-value-at c = omega (arith, nodes-some (start (values-of c) .pre .good))
 
 value-at-requires : tie.Need-value-at-requires
 value-at-requires c κs = search needs
 
 returns : tie.Need-returns
-returns c = formula-from (c .before .before .before .before .before .before .before .before .pre) (c .before .before .before .before .all-values .ensures) (c .value-at .ensures)
+returns c =
+    let values = values-of (c .before) in
+    formula-from (start values .pre) (values .all-values .ensures) (c .value-at .ensures)
 
 pub formula-value-spec : {M : Type 1} → statement M
 formula-value-spec =

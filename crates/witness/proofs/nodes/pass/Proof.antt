@@ -15,9 +15,19 @@ Inv-loop node span rows m end t₀ y₀ i₀ t y i = Passing span rows m (node-r
 abbrev μ-loop : tie.MeasureT-loop
 μ-loop node span rows m end t₀ y₀ i₀ t y i = i
 
+-- ════════ The points ════════
+
+abbrev start : tie.At-loop Inv-loop μ-loop → tie.Start Inv-loop μ-loop
+start l = l .before .before .before .before
+
+abbrev loop-of : tie.After-op-value Inv-loop μ-loop → tie.At-loop Inv-loop μ-loop
+loop-of c = c .before .before .before
+
+-- ════════ The needs ════════
+
 add-i : tie.Need-add-i Inv-loop μ-loop
 unfolding bound-limit
-add-i c = let h = c .before .before .before .pre .span-right .last-within in omega arith
+add-i c = omega (arith, c .before .before .before .pre .span-right .last-within)
 
 loop-holds : tie.Need-loop-holds Inv-loop μ-loop
 loop-holds c = passing-none
@@ -27,33 +37,32 @@ sub-i c = omega arith
 
 op-value-requires : tie.Need-op-value-requires Inv-loop μ-loop
 op-value-requires c κs =
-    let pre = c .before .before .before .before .before .before .pre in
+    let l = c .before .before in
     record {
-      span-right = pre .span-right;
-      room = pre .room;
-      position-within = let h = c .before .before .loop .inv .below in omega arith;
+      span-right = start l .pre .span-right;
+      room = start l .pre .room;
+      position-within = omega (arith, l .loop .inv .below);
     }
 
 mul-t : tie.Need-mul-t Inv-loop μ-loop
 unfolding nodes-limit
-mul-t c = omega (arith, row-within (c .before .before .before .before .before .before .before .pre))
+mul-t c = omega (arith, row-within (start (loop-of c) .pre))
 
 cast-t : tie.Need-cast-t Inv-loop μ-loop
 unfolding bound-limit
-cast-t c = omega (arith, c .before .before .before .loop .inv .below, c .before .before .before .before .before .before .before .pre .span-right .last-within)
+cast-t c = let l = loop-of c in omega (arith, l .loop .inv .below, start l .pre .span-right .last-within)
 
 add-t : tie.Need-add-t Inv-loop μ-loop
 unfolding nodes-limit bound-limit
 add-t c =
-    let pre = c .before .before .before .before .before .before .before .pre in
-    omega (arith, row-within pre, c .before .before .before .loop .inv .below, pre .span-right .last-within)
+    let l = loop-of c in
+    omega (arith, row-within (start l .pre), l .loop .inv .below, start l .pre .span-right .last-within)
 
 slice-write-t : tie.Need-slice-write-t Inv-loop μ-loop
 unfolding positions-limit bound-limit
 slice-write-t c =
-    let inv = c .before .before .before .loop .inv in
-    place-within (c .before .before .before .before .before .before .before .pre) (c .before .before .before .loop .t) _ (inv .same-length)
-    (omega (arith, inv .below))
+    let l = loop-of c in
+    place-within (start l .pre) (l .loop .t) _ (l .loop .inv .same-length) (omega (arith, l .loop .inv .below))
 
 loop-less : tie.Need-loop-less Inv-loop μ-loop
 loop-less c = omega arith
@@ -61,10 +70,10 @@ loop-less c = omega arith
 loop-again : tie.Need-loop-again Inv-loop μ-loop
 unfolding positions-limit bound-limit
 loop-again c =
-    let at = c .before .before .before in
-    let i = at .loop .i in
+    let l = loop-of c in
+    let i = l .loop .i in
     let one-more : i ≡ i - 1 + 1 = omega (arith, c .before .before .loop-test .taken) in
-    passing-more (at .before .before .before .before .pre) (i - 1) (passing-at one-more (at .loop .inv)) (c .op-value .ensures)
+    passing-more (start l .pre) (i - 1) (passing-at one-more (l .loop .inv)) (c .op-value .ensures)
 
 same-length : tie.Need-same-length Inv-loop μ-loop
 same-length c = c .before .loop .inv .same-length

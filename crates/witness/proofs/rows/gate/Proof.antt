@@ -1,96 +1,96 @@
 -- `gate` meets its contract: the words that it reads are the gate's literals, and where words and row are long enough none is past their end.
 -- Assumes nothing.
 use mathlib.Core.List.{List}
-use mathlib.Core.Path.{_≡_, ap, _∙_}
-use mathlib.Core.Bool.{Bool, true, _&&_}
-use Prim.Native.Nat.{ℕ, _+_, _*_, _/_, _<_, _≤_}
+use mathlib.Core.Path.{_≡_, ap, ap₂, _∙_}
+use mathlib.Core.Bool.{_&&_}
+use Prim.Native.Nat.{ℕ, _+_, _*_, _/_, _<_}
 use native.Mathlib.Omega.{arith}
-use lib.Dec.{leb, ltb}
+use lib.Dec.{leb}
 use lib.ListN.{length}
 use borrow.Author.Needs.{needs}
 use borrow.Author.Tests.{leb-true, ltb-true}
 use Rattle.clauses.proofs.Satisfaction.{first-true, second-true}
-use Rattle.meaning.specs.Problem.{word, gate-variable, problem}
-use Rattle.problem.specs.declared.Sizes.{Sizes}
-use Rattle.witness.specs.Tables.{Ready}
-use Rattle.witness.proofs.Sizing.{sizes-read, left-read, right-read}
+use Rattle.meaning.specs.Problem.{Problem, word, gate, gate-variable}
+use Rattle.meaning.specs.Runs.{literal-value}
+use Rattle.problem.specs.Promise.{problem-in}
+use Rattle.problem.proofs.Outlines.{Shows, shows, left-read, right-read}
 use Rattle.witness.proofs.rows.gate.Statement.{statement}
 use Rattle.witness.proofs.rows.gate.Tie as tie
 
-module _ {ws : List ℕ} {s : Sizes} (ready : Ready ws s) (j : ℕ) (there : j < s .gates) where
-  -- The words of the gates stand before those of the nodes.
-  before-nodes : s .«gates_from» + 2 * j + 1 < s .«nodes_from»
-  before-nodes =
-      let gates-from = ap (λ (x : Sizes). x .«gates_from») (ready .sizes-are) in
-      let nodes-from = ap (λ (x : Sizes). x .«nodes_from») (ready .sizes-are) in
-      let gates = ap (λ (x : Sizes). x .gates) (ready .sizes-are) in
-      omega arith
+-- ════════ The points ════════
 
-  -- A literal below twice the gate's own variable is of an earlier one.
-  earlier : (x : ℕ) → x < 2 * gate-variable (problem ws) j → x / 2 < s .inputs + s .latches + s .gates
-  earlier x below = let sizes = sizes-read ready in omega arith
+abbrev start : tie.After-struct-known → tie.Start
+start c = c .before .before .before .before
 
-  module _ (row : List Bool) {end : ℕ} (nodes : end ≡ s .«nodes_from» + 3 * 0)
-      (long : leb end (length ws) && ltb (s .inputs + s .latches + s .gates) (length row) ≡ true) where
-    words-long : end ≤ length ws
-    words-long = leb-true end (length ws) (first-true (leb end (length ws)) _ long)
+abbrev place-of : tie.After-shared-slice-known4 → tie.After-gate-place2
+place-of c = c .before .before .before
 
-    row-long : s .inputs + s .latches + s .gates < length row
-    row-long = ltb-true _ (length row) (second-true (leb end (length ws)) _ long)
+abbrev problem-at : tie.Start → Problem
+problem-at c = problem-in (c .args .s) (c .args .words .now)
 
-    right-there : s .«gates_from» + 2 * j + 1 < length ws
-    right-there = omega (arith, before-nodes, words-long)
+sizes : (c : tie.Start) → Shows (c .args .s) (problem-at c)
+sizes c = shows (c .args .s) (c .args .words .now)
 
-    left-there : s .«gates_from» + 2 * j < length ws
-    left-there = omega (arith, right-there)
+-- ════════ Past the test ════════
 
-    left-within : word ws (s .«gates_from» + 2 * j) / 2 < length row
-    left-within =
-        let sizes = sizes-read ready in
-        rw (left-read ready j there) (omega (arith, earlier _ (ready .proper .left-below j (omega arith)), row-long))
+module _ (c : tie.After-gate-place2) where
+  abbrev here : tie.Start
+  here = start (c .before .before)
 
-    right-within : word ws (s .«gates_from» + 2 * j + 1) / 2 < length row
-    right-within =
-        let sizes = sizes-read ready in
-        rw (right-read ready j there) (omega (arith, earlier _ (ready .proper .right-below j (omega arith)), row-long))
+  abbrev words : List ℕ
+  words = here .args .words .now
 
-cast-variables : tie.Need-cast-variables
-cast-variables c = search needs
+  abbrev end : ℕ
+  end = c .before .before .before .gate-place .result
 
-cast-variables-2 : tie.Need-cast-variables-2
-cast-variables-2 c = search needs
+  -- Both words of the gate are there.
+  right-there : c .gate-place2 .result + 1 < length words
+  right-there =
+      omega (
+        arith,
+        here .pre .1,
+        c .gate-place2 .ensures,
+        c .before .before .before .gate-place .ensures,
+        leb-true end (length words) (first-true (leb end (length words)) _ (c .before .if1 .taken)),
+      )
 
-add-variables : tie.Need-add-variables
-add-variables c = search needs
+  left-is : word words (c .gate-place2 .result) ≡ gate (problem-at here) (here .args .j) .left
+  left-is = ap (word words) (c .gate-place2 .ensures) ∙ left-read (here .args .s) words (here .args .j) (here .pre .1)
 
-cast-variables-3 : tie.Need-cast-variables-3
-cast-variables-3 c = search needs
+  right-is : word words (c .gate-place2 .result + 1) ≡ gate (problem-at here) (here .args .j) .right
+  right-is = ap (λ (at : ℕ). word words (at + 1)) (c .gate-place2 .ensures) ∙ right-read (here .args .s) words (here .args .j) (here .pre .1)
 
-add-variables-2 : tie.Need-add-variables-2
-add-variables-2 c = search needs
+  gate-there : here .args .j < length (problem-at here .gates)
+  gate-there = rw (sizes here .gates-are) (here .pre .1)
 
-node-place-requires : tie.Need-node-place-requires
-node-place-requires c κs = search needs
+  -- A literal of the gate, on either side, is of a variable that the row has.
+  within : {x side : ℕ} → x ≡ side → side < 2 * gate-variable (problem-at here) (here .args .j) → x / 2 < length (here .args .row .now)
+  within is below =
+      let z = sizes here in
+      let row-long = ltb-true (here .args .s .width) (length (here .args .row .now)) (second-true (leb end (length words)) _ (c .before .if1 .taken)) in
+      omega (arith, here .pre .0 .width-is, here .pre .1)
+
+-- ════════ The needs ════════
 
 gate-place-requires : tie.Need-gate-place-requires
 gate-place-requires c κs = search needs
+
+cast-if1 : tie.Need-cast-if1
+cast-if1 c = search needs
+
+gate-place-requires-2 : tie.Need-gate-place-requires-2
+gate-place-requires-2 c κs = search needs
 
 mul-literal-within : tie.Need-mul-literal-within
 mul-literal-within c = search needs
 
 shared-slice-read-literal-within : tie.Need-shared-slice-read-literal-within
-shared-slice-read-literal-within c =
-    let test = c .before .before in
-    let start = test .before .before .before .before .before .before .before in
-    rw (c .before .gate-place .ensures)
-    (left-there (start .pre .0) (start .args .j) (start .pre .1) (start .args .row .now) (test .before .node-place .ensures) (test .if1 .taken))
+shared-slice-read-literal-within c = omega (arith, right-there (c .before))
 
 literal-within-requires : tie.Need-literal-within-requires
 literal-within-requires c κs =
-    let test = c .before .before in
-    let start = test .before .before .before .before .before .before .before in
-    rw (c .before .gate-place .ensures)
-    (left-within (start .pre .0) (start .args .j) (start .pre .1) (start .args .row .now) (test .before .node-place .ensures) (test .if1 .taken))
+    let at = c .before in
+    within at (left-is at) (here at .pre .0 .proper .left-below (here at .args .j) (gate-there at))
 
 add-literal-within : tie.Need-add-literal-within
 add-literal-within c = search needs
@@ -99,31 +99,18 @@ mul-literal-within-2 : tie.Need-mul-literal-within-2
 mul-literal-within-2 c = search needs
 
 shared-slice-read-literal-within-2 : tie.Need-shared-slice-read-literal-within-2
-shared-slice-read-literal-within-2 c =
-    let test = c .before .before .before .before in
-    let start = test .before .before .before .before .before .before .before in
-    rw (c .before .before .before .gate-place .ensures)
-    (right-there (start .pre .0) (start .args .j) (start .pre .1) (start .args .row .now) (test .before .node-place .ensures) (test .if1 .taken))
+shared-slice-read-literal-within-2 c = right-there (place-of c)
 
 literal-within-requires-2 : tie.Need-literal-within-requires-2
 literal-within-requires-2 c κs =
-    let test = c .before .before .before .before in
-    let start = test .before .before .before .before .before .before .before in
-    rw (c .before .before .before .gate-place .ensures)
-    (right-within (start .pre .0) (start .args .j) (start .pre .1) (start .args .row .now) (test .before .node-place .ensures) (test .if1 .taken))
+    let at = place-of c in
+    within at (right-is at) (here at .pre .0 .proper .right-below (here at .args .j) (gate-there at))
 
 returns : tie.Need-returns
 returns c =
-    let left = c .before .before in
-    let place = left .before .before in
-    let start = place .before .before .before .before .before .before .before .before in
-    rw (
-      ← (left-read (start .pre .0) (start .args .j) (start .pre .1)),
-      ← (right-read (start .pre .0) (start .args .j) (start .pre .1)),
-      ← (place .gate-place .ensures),
-      ← (c .literal-within2 .ensures),
-      ← (left .literal-within .ensures),
-    )
+    let at = place-of (c .before) in
+    let value = literal-value (here at .args .row .now) in
+    ap₂ _&&_ (c .before .before .literal-within .ensures ∙ ap value (left-is at)) (c .literal-within2 .ensures ∙ ap value (right-is at))
 
 gate-left-requires : tie.Need-gate-left-requires
 gate-left-requires c κs = search needs
@@ -139,23 +126,17 @@ literal-requires-2 c κs = search needs
 
 returns-2 : tie.Need-returns-2
 returns-2 c =
-    let literal = c .before .before in
-    let start = literal .before .before .before .before .before .before .before .before .before in
-    let left = literal .before .gate-left .ensures ∙ left-read (start .pre .0) (start .args .j) (start .pre .1) in
-    let right = c .before .gate-right .ensures ∙ right-read (start .pre .0) (start .args .j) (start .pre .1) in
-    rw (← left, ← right, ← (c .literal2 .ensures), ← (literal .literal .ensures))
+    let left = c .before .before in
+    let value = literal-value (start (left .before .before .before) .args .row .now) in
+    ap₂ _&&_ (left .literal .ensures ∙ ap value (left .before .gate-left .ensures)) (c .literal2 .ensures ∙ ap value (c .before .gate-right .ensures))
 
 pub gate-spec : {M : Type 1} → statement M
 gate-spec =
     tie.close
     (tie.spec
-    cast-variables
-    cast-variables-2
-    add-variables
-    cast-variables-3
-    add-variables-2
-    node-place-requires
     gate-place-requires
+    cast-if1
+    gate-place-requires-2
     mul-literal-within
     shared-slice-read-literal-within
     literal-within-requires

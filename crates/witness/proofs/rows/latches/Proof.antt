@@ -2,10 +2,29 @@
 use native.Mathlib.Omega.{arith}
 use Rattle.meaning.specs.Limits.{inputs-limit, latches-limit, gates-limit}
 use Rattle.witness.specs.Tables.{row-width}
-use Rattle.witness.proofs.Lending.{row-room, given-narrow, bytes-room, first-there, next-there}
+use Rattle.witness.proofs.RowParts.{row-room, first-there, next-there}
 use borrow.Author.Needs.{needs}
 use Rattle.witness.proofs.rows.latches.Statement.{statement}
 use Rattle.witness.proofs.rows.latches.Tie as tie
+
+-- ════════ The points ════════
+
+abbrev start : tie.After-slice-known → tie.Start
+start c = c .before .before .before
+
+abbrev first-of : tie.After-struct-known2 → tie.Then1
+first-of c = c .before .before .before
+
+abbrev copied : tie.After-slice-known2 → tie.After-copy-bits
+copied c = c .before .before
+
+abbrev stepped : tie.After-slice-known3 → tie.After-next-latches
+stepped c = c .before .before
+
+abbrev later-of : tie.After-next-latches → tie.Else1
+later-of c = c .before .before
+
+-- ════════ The needs ════════
 
 cast-copy-bits : tie.Need-cast-copy-bits
 cast-copy-bits c = search needs
@@ -18,9 +37,7 @@ cast-copy-bits-2 c = search needs
 
 copy-bits-requires : tie.Need-copy-bits-requires
 unfolding inputs-limit latches-limit gates-limit row-width
-copy-bits-requires c κs =
-    let start = c .before .before .before .before .before .before .before in
-    (omega (arith, row-room (start .pre), given-narrow (start .pre)), omega (arith, bytes-room (start .pre)))
+copy-bits-requires c κs = let there = row-room (start (first-of c .before) .pre) in (omega (arith, there), omega (arith, there))
 
 sub-next-latches : tie.Need-sub-next-latches
 sub-next-latches c = search needs
@@ -28,24 +45,24 @@ sub-next-latches c = search needs
 next-latches-requires : tie.Need-next-latches-requires
 unfolding inputs-limit latches-limit gates-limit row-width
 next-latches-requires c κs =
-    let start = c .before .before .before .before .before in
-    (start .pre .ready, omega (arith, row-room (start .pre), c .before .if1 .left))
+    let pre = start (c .before .before) .pre in
+    (pre .good, omega (arith, row-room pre, c .before .if1 .left))
 
 same-length : tie.Need-same-length
 same-length c = search needs
 
 returns : tie.Need-returns
 returns c =
-    let start = c .before .before .before .before .before .before .before .before .before .before in
-    first-there (start .pre) _ (c .before .before .before .before .before .before .if1 .taken) (c .before .before .copy-bits .ensures)
+    let first = first-of (copied c .before) in
+    first-there (start (first .before) .pre) _ (first .if1 .taken) (copied c .copy-bits .ensures)
 
 same-length-2 : tie.Need-same-length-2
 same-length-2 c = search needs
 
 returns-2 : tie.Need-returns-2
 returns-2 c =
-    let start = c .before .before .before .before .before .before .before .before in
-    next-there (start .pre) _ (c .before .before .before .before .if1 .left) (c .before .before .next-latches .ensures)
+    let later = later-of (stepped c) in
+    next-there (start (later .before) .pre) _ (later .if1 .left) (stepped c .next-latches .ensures)
 
 pub latches-spec : {M : Type 1} → statement M
 latches-spec =

@@ -5,9 +5,11 @@ use native.Mathlib.Omega.{arith}
 use borrow.Author.Needs.{needs}
 use Rattle.meaning.specs.Limits.{inputs-limit, latches-limit, gates-limit}
 use Rattle.witness.specs.Tables.{row-width}
-use Rattle.witness.proofs.Sizing.{next-read}
 use Rattle.witness.proofs.rows.next_value.Statement.{statement}
 use Rattle.witness.proofs.rows.next_value.Tie as tie
+
+abbrev start : tie.After-literal → tie.Start
+start c = c .before .before .before .before .before
 
 mul-from : tie.Need-mul-from
 mul-from c = search needs
@@ -34,11 +36,9 @@ literal-requires c κs = search needs
 returns : tie.Need-returns
 unfolding inputs-limit latches-limit gates-limit row-width
 returns c =
-    let start = c .before .before .before .before .before in
-    let from : ℕ = start .args .t * row-width in
+    let from : ℕ = start c .args .t * row-width in
     let size : (from + row-width) - from ≡ row-width = omega arith in
-    let next = c .before .latch-next .ensures ∙ next-read (start .pre .0) (start .args .i) (start .pre .1) in
-    c .literal .ensures ∙ rw (size, next)
+    c .literal .ensures ∙ rw (size, c .before .latch-next .ensures)
 
 pub next-value-spec : {M : Type 1} → statement M
 next-value-spec =

@@ -1,26 +1,43 @@
 -- `row` meets its contract: the inputs, the latches, then the gates over them. Assumes nothing.
+use mathlib.Core.List.{List}
 use mathlib.Core.Path.{_≡_, _∙_}
 use Prim.Native.Nat.{ℕ, _+_, _*_, _-_}
 use native.Mathlib.Omega.{arith}
 use borrow.Rule.Slice.PartMut.{same-len-mid}
 use Rattle.meaning.specs.Limits.{inputs-limit, latches-limit, gates-limit}
 use Rattle.witness.specs.Tables.{row-width}
-use Rattle.witness.proofs.Lending.{row-room, row-wide, lent-again, row-there}
+use Rattle.witness.proofs.RowParts.{row-room, row-wide, ready-still, row-there}
 use borrow.Author.Needs.{needs}
 use Rattle.witness.proofs.rows.row.Statement.{statement}
 use Rattle.witness.proofs.rows.row.Tie as tie
+
+-- ════════ The points ════════
+
+abbrev start : tie.After-inputs → tie.Start
+start c = c .before .before .before .before .before
+
+abbrev inputs-of : tie.After-latches → tie.After-inputs
+inputs-of c = c .before .before .before .before
+
+abbrev latches-of : tie.After-gates → tie.After-latches
+latches-of c = c .before .before .before .before
+
+abbrev words : tie.After-inputs → List ℕ
+words c = start c .args .words .now
 
 -- How many values the part that is lent has.
 size : (from : ℕ) → (from + row-width) - from ≡ row-width
 size from = omega arith
 
+-- ════════ The needs ════════
+
 inputs-requires : tie.Need-inputs-requires
-inputs-requires c κs = search needs
+inputs-requires c κs = row-room (c .before .before .before .before .pre)
 
 latches-requires : tie.Need-latches-requires
 latches-requires c κs =
     let inputs = c .before .before .before in
-    lent-again (inputs .before .before .before .before .before .pre) _ (inputs .inputs .kept .1 .1 .1 .1 .0) (inputs .inputs .ensures)
+    ready-still (start inputs .pre) _ (inputs .inputs .kept .1 .1 .1 .0) (inputs .inputs .ensures (words inputs))
 
 mul-from : tie.Need-mul-from
 mul-from c = search needs
@@ -38,19 +55,17 @@ part-gates-end : tie.Need-part-gates-end
 unfolding inputs-limit latches-limit gates-limit row-width
 part-gates-end c =
     let latches = c .before .before in
-    let inputs = latches .before .before .before .before in
-    let start = inputs .before .before .before .before .before in
-    omega (arith, row-room (start .pre), latches .latches .kept .1 .1 .1 .1 .0, inputs .inputs .kept .1 .1 .1 .1 .0)
+    let inputs = inputs-of latches in
+    omega (arith, row-room (start inputs .pre), latches .latches .kept .1 .1 .1 .1 .0, inputs .inputs .kept .1 .1 .1 .0)
 
 gates-requires : tie.Need-gates-requires
 unfolding inputs-limit latches-limit gates-limit row-width
 gates-requires c κs =
     let latches = c .before .before .before in
-    let inputs = latches .before .before .before .before in
-    let start = inputs .before .before .before .before .before in (
-      start .pre .ready,
-      rw (size (start .args .t * row-width))
-          (row-wide (start .pre) _ (latches .latches .kept .1 .1 .1 .1 .0 ∙ inputs .inputs .kept .1 .1 .1 .1 .0)),
+    let inputs = inputs-of latches in (
+      start inputs .pre .good,
+      rw (size (start inputs .args .t * row-width))
+          (row-wide (start inputs .pre) _ (latches .latches .kept .1 .1 .1 .1 .0 ∙ inputs .inputs .kept .1 .1 .1 .0)),
     )
 
 same-length : tie.Need-same-length
@@ -60,13 +75,12 @@ returns : tie.Need-returns
 unfolding inputs-limit latches-limit gates-limit row-width
 returns c =
     let gates = c .before .before in
-    let latches = gates .before .before .before .before in
-    let inputs = latches .before .before .before .before in
-    let start = inputs .before .before .before .before .before in
-    let from : ℕ = start .args .t * row-width in
+    let latches = latches-of gates in
+    let inputs = inputs-of latches in
+    let from : ℕ = start inputs .args .t * row-width in
     let length = size from in
-    row-there (start .pre) _ _ _ (inputs .inputs .kept .1 .1 .1 .1 .0) (latches .latches .kept .1 .1 .1 .1 .0)
-    (inputs .inputs .ensures) (latches .latches .ensures)
+    row-there (start inputs .pre) _ _ _ (inputs .inputs .kept .1 .1 .1 .0) (latches .latches .kept .1 .1 .1 .1 .0)
+    (inputs .inputs .ensures (words inputs)) (latches .latches .ensures)
     (rw length at (gates .gates .kept .1 .1 .0)) (rw length at (gates .gates .ensures)) _
     (same-len-mid from ((from + row-width) - from) _ (gates .gates .last .1 .1 .0) (gates .gates .kept .1 .1 .0))
 

@@ -1,0 +1,156 @@
+-- The outcomes of writing a CNF for a refutation, from the numbers of the CNF and of the steps. Assumes nothing.
+use mathlib.Core.Path.{_≡_, refl, sym, _∙_, ap}
+use mathlib.Core.Bool.{true}
+use mathlib.Core.List.{List, [], _∷_}
+use Prim.Native.Nat.{ℕ, suc, _+_, _<_, _≤_}
+use native.Mathlib.Nat.{zero-add}
+use native.Mathlib.Numerals.{add-one}
+use native.Mathlib.Omega.{arith}
+use borrow.Author.Tests.{le-leb, lt-leb}
+use lib.IntN.{ℤ}
+use lib.ListN.{length}
+use Rattle.clauses.specs.Limits.{variables-limit}
+use Rattle.clauses.specs.Lists.{all-of}
+use Rattle.clauses.specs.Answers.{Answer, first-failing, granted, bad-refutation, area-too-small}
+use Rattle.clauses.specs.CnfWords.{words-of}
+use Rattle.clauses.specs.Refutations.{steps-of, refutation-checks, area-checks}
+use Rattle.clauses.proofs.Answers.{passing, first-failing-passed, number-of, refused-anyway}
+use Rattle.clauses.proofs.ReadBack.{clauses-back, within-no-zeros, clauses-fewer}
+use Rattle.meaning.specs.Answers.{room-too-small}
+use Rattle.meaning.specs.Problem as problems
+use Rattle.meaning.specs.Problem.{problem}
+use Rattle.meaning.specs.Check.{Proper, problem-checked}
+use Rattle.meaning.specs.Cnf.{cnf, cnf-words, variables}
+use Rattle.meaning.specs.Calls.{room-checked, before-steps}
+use Rattle.meaning.proofs.Check.{checked-if-well-formed}
+use Rattle.meaning.proofs.Counts.{variable-count-is, clause-count-is, word-count-is}
+use Rattle.meaning.proofs.Ranges.{literals-within, variables-fit}
+use Rattle.problem.specs.declared.Outline.{Outline}
+use Rattle.problem.specs.declared.Refusal.{Refusal}
+use Rattle.problem.specs.declared.Checked.the-variants.{Good, Refused}
+use Rattle.problem.specs.Promise.{problem-in, CheckedAs}
+use Rattle.problem.proofs.Formed.{well-formed-if-good, refused-whatever}
+use Rattle.encoder.specs.declared.Counts.{Counts}
+use Rattle.encoder.specs.declared.Prepared.{Prepared}
+use Rattle.encoder.specs.declared.Prepared.the-variants.{Written, Problem, RoomTooSmall, BadRefutation, AreaTooSmall}
+use Rattle.encoder.specs.Promise.{counts-of}
+use Rattle.encoder.specs.Writing.{Wrote}
+use Rattle.encoder.specs.Preparing.{prepared-room, WrittenNumbered, PreparedFor, PreparedAs}
+
+-- ════════ The numbers of a good problem's CNF ════════
+
+module _ {p : problems.Problem} (proper : Proper p) {n : Counts} (counted : n ≡ counts-of p) where
+  variables-counted : n .variables ≡ variables p
+  variables-counted = rw counted (sym (variable-count-is p (proper .nodes-some)))
+
+  clauses-counted : n .clauses ≡ length (cnf p)
+  clauses-counted = rw counted (sym (clause-count-is p))
+
+  pub words-counted : n .words ≡ length (cnf-words p)
+  words-counted = rw counted (sym (word-count-is p))
+
+  pub few-variables : n .variables ≤ variables-limit
+  few-variables = rw variables-counted (variables-fit p proper)
+
+  pub fewer-clauses : n .clauses ≤ n .words
+  unfolding cnf-words
+  fewer-clauses =
+      let back = clauses-back (cnf p) (within-no-zeros (variables p) (cnf p) (literals-within p proper)) in
+      let fewer : length (cnf p) ≤ length (words-of (cnf p)) = rw back at (clauses-fewer (words-of (cnf p))) in
+      rw (clauses-counted, words-counted) fewer
+
+  -- ════════ Before the CNF is written ════════
+
+  module _ (refutation : List ℤ) (numbers places : ℕ) (room : List ℤ) where
+    abbrev Outcome : Prepared → List ℤ → Type 0
+    Outcome = PreparedFor p refutation numbers places room
+
+    pub room-refused : length room < n .words → Outcome (RoomTooSmall (n .words)) room
+    unfolding before-steps room-checked
+    room-refused h =
+        let short = lt-leb (length (cnf-words p)) (length room) (rw words-counted at h) in
+        record { answered = λ steps. ap room-too-small words-counted ∙ rw short; room-after = refl; numbered = tt }
+
+    module _ (room-there : n .words ≤ length room) where
+      -- The room's check passes: those of the words and of the areas are left.
+      past-room : (steps : Answer)
+          → first-failing (refutation-checks (n .variables) (n .clauses) refutation) (first-failing (area-checks (n .variables) (cnf p) (steps-of refutation) numbers places) steps)
+          ≡ before-steps p refutation (length room) numbers places steps
+      unfolding before-steps room-checked
+      past-room steps =
+          let long = le-leb (length (cnf-words p)) (length room) (rw words-counted at room-there) in
+          rw (long, ← variables-counted, ← clauses-counted)
+
+      pub words-refused : {i : ℕ} → bad-refutation i ≡ first-failing (refutation-checks (n .variables) (n .clauses) refutation) (granted (length (steps-of refutation)))
+          → Outcome (BadRefutation i) room
+      words-refused e = record {
+        answered = λ steps.
+            refused-anyway (refutation-checks (n .variables) (n .clauses) refutation) _ _ e (λ f. let z : _≡_ {A = ℕ} 11 0 = number-of f in omega arith)
+            ∙ past-room steps;
+        room-after = refl;
+        numbered = tt;
+      }
+
+      module _ {s : ℕ} (right : (all-of passing (refutation-checks (n .variables) (n .clauses) refutation) ≡ true) × (s ≡ length (steps-of refutation))) where
+        past-words : (steps : Answer)
+            → first-failing (area-checks (n .variables) (cnf p) (steps-of refutation) numbers places) steps
+            ≡ before-steps p refutation (length room) numbers places steps
+        past-words steps = sym (first-failing-passed (refutation-checks (n .variables) (n .clauses) refutation) _ (right .0)) ∙ past-room steps
+
+        sum-is : n .clauses + s ≡ length (cnf p) + length (steps-of refutation)
+        sum-is = rw (clauses-counted, right .1)
+
+        pub numbers-refused : numbers < n .variables + 1 → Outcome (AreaTooSmall (n .variables + 1)) room
+        unfolding area-checks
+        numbers-refused h =
+            let short = lt-leb (suc (n .variables)) numbers (omega arith) in
+            record {
+              answered = λ steps. ap area-too-small (add-one (n .variables)) ∙ sym (sym (past-words steps) ∙ rw short);
+              room-after = refl;
+              numbered = tt;
+            }
+
+        module _ (enough : n .variables + 1 ≤ numbers) where
+          pub places-refused : places < n .clauses + s → Outcome (AreaTooSmall (n .clauses + s)) room
+          unfolding area-checks
+          places-refused h =
+              let long = le-leb (suc (n .variables)) numbers (omega arith) in
+              let short = lt-leb (length (cnf p) + length (steps-of refutation)) places (rw sum-is at h) in
+              record {
+                answered = λ steps. ap area-too-small sum-is ∙ sym (sym (past-words steps) ∙ rw (long, short));
+                room-after = refl;
+                numbered = tt;
+              }
+
+          pub cnf-prepared : n .clauses + s ≤ places → {after : List ℤ} {r : ℕ} → Wrote 0 (words-of (cnf p)) room after r
+              → Outcome (Written (record { variables = n .variables; clauses = n .clauses; words = r })) after
+          unfolding area-checks cnf-words
+          cnf-prepared h w =
+              let long = le-leb (suc (n .variables)) numbers (omega arith) in
+              let wide = le-leb (length (cnf p) + length (steps-of refutation)) places (rw sum-is at h) in
+              record {
+                answered = λ steps. sym (sym (past-words steps) ∙ rw (long, wide));
+                room-after = w .holds ∙ rw zero-add;
+                numbered = rw (w .ends ∙ zero-add _ ∙ sym words-counted) counted;
+              }
+
+-- ════════ The check ════════
+
+module _ {version : ℕ} {ws : List ℕ} {refutation : List ℤ} {numbers places : ℕ} where
+  pub prepared-if-good : {s : Outline} → CheckedAs version ws (Good s) → {before after : List ℤ} {r : Prepared}
+      → PreparedFor (problem-in s ws) refutation numbers places before r after → PreparedAs version ws refutation numbers places before r after
+  prepared-if-good good {before} {after} {r} a =
+      let same = good .outlined .problem-is in
+      let b = rw same at a in
+      record {
+        answered = λ steps. b .answered steps ∙ sym (checked-if-well-formed version ws _ (well-formed-if-good good));
+        room-after = b .room-after;
+        numbered = b .numbered;
+      }
+
+  pub prepared-if-refused : {f : Refusal} → CheckedAs version ws (Refused f) → (before : List ℤ) → PreparedAs version ws refutation numbers places before (Problem f) before
+  prepared-if-refused {f} refused before = record {
+    answered = λ steps. refused-whatever version ws f _ (refused .answered);
+    room-after = refl;
+    numbered = tt;
+  }

@@ -1,0 +1,66 @@
+-- What writing answers: the check's refusal, or what the room's length asks for, with the room after it. Assumes nothing.
+use mathlib.Core.Path.{_≡_, refl, sym, _∙_, ap}
+use mathlib.Core.List.{List}
+use Prim.Native.Nat.{ℕ, _<_, _≤_}
+use native.Mathlib.Nat.{zero-add}
+use borrow.Author.Tests.{le-leb, lt-leb, ne-eqb}
+use lib.IntN.{ℤ}
+use lib.ListN.{length}
+use Rattle.clauses.specs.Answers.{granted}
+use Rattle.clauses.specs.CnfWords.{words-of}
+use Rattle.meaning.specs.Answers.{room-too-small}
+use Rattle.meaning.specs.Problem as problems
+use Rattle.meaning.specs.Cnf.{cnf, cnf-words}
+use Rattle.meaning.specs.Calls.{room-checked, write-cnf, room-after-writing}
+use Rattle.meaning.proofs.Check.{checked-if-well-formed}
+use Rattle.problem.specs.declared.Outline.{Outline}
+use Rattle.problem.specs.declared.Refusal.{Refusal}
+use Rattle.problem.specs.declared.Checked.the-variants.{Good, Refused}
+use Rattle.problem.specs.Promise.{CheckedAs, refusal-answer, problem-in}
+use Rattle.problem.proofs.Unique.{refusal-not-yes}
+use Rattle.problem.proofs.Formed.{well-formed-if-good, refused-whatever}
+use Rattle.encoder.specs.declared.Encoded.{Encoded}
+use Rattle.encoder.specs.declared.Encoded.the-variants.{Written, Problem, RoomTooSmall}
+use Rattle.encoder.specs.Promise.{EncodedAs}
+use Rattle.encoder.specs.Writing.{Room, Wrote, RoomAnswered}
+
+-- ════════ The check ════════
+
+module _ {version : ℕ} {ws : List ℕ} where
+  pub encoded-if-good : {s : Outline} → CheckedAs version ws (Good s) → {before after : List ℤ} {r : Encoded}
+      → RoomAnswered (problem-in s ws) before r after → EncodedAs version ws before r after
+  unfolding write-cnf room-after-writing
+  encoded-if-good good a =
+      let answer = rw (good .outlined .problem-is) at a in
+      record {
+        answered = answer .answered ∙ sym (checked-if-well-formed version ws _ (well-formed-if-good good));
+        room-after = answer .room-after;
+      }
+
+  pub encoded-if-refused : {f : Refusal} → CheckedAs version ws (Refused f) → (before : List ℤ) → EncodedAs version ws before (Problem f) before
+  unfolding write-cnf room-after-writing
+  encoded-if-refused {f} refused before = record {
+    answered = refused-whatever version ws f _ (refused .answered);
+    room-after = rw (ne-eqb (refusal-answer f .number) 0 (refusal-not-yes f));
+  }
+
+-- ════════ The room ════════
+
+module _ (p : problems.Problem) {before : List ℤ} where
+  pub room-suffices : {n : ℕ} → n ≡ length (cnf-words p) → n ≤ length before → Room 0 (cnf p) before
+  unfolding cnf-words
+  room-suffices e h = record { fits = rw (zero-add, ← e) h }
+
+  pub too-small : {n : ℕ} → n ≡ length (cnf-words p) → length before < n → RoomAnswered p before (RoomTooSmall n) before
+  unfolding room-checked
+  too-small e h = record {
+    answered = rw (lt-leb (length (cnf-words p)) (length before) (rw e at h)) (ap room-too-small e);
+    room-after = refl;
+  }
+
+  pub all-written : {after : List ℤ} {r : ℕ} → Wrote 0 (words-of (cnf p)) before after r → RoomAnswered p before (Written r) after
+  unfolding room-checked cnf-words
+  all-written w = record {
+    answered = rw (le-leb (length (words-of (cnf p))) (length before) (rw zero-add at (w .fits))) (ap granted (w .ends ∙ zero-add _));
+    room-after = w .holds ∙ rw zero-add;
+  }

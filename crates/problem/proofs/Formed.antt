@@ -1,0 +1,104 @@
+-- The whole check from its parts, what its yes says of the outline, and that a refusal stands whatever comes after. Assumes nothing.
+use mathlib.Core.Path.{_≡_, refl, sym, _∙_, ap}
+use mathlib.Core.Bool.{Bool, true, false}
+use mathlib.Core.List.{List, [], _∷_}
+use Prim.Native.Nat.{ℕ, _+_}
+use native.Mathlib.Omega.{arith}
+use Rattle.clauses.specs.Lists.{all-of, joined}
+use Rattle.clauses.specs.Answers.{Answer, Check, first-failing, granted}
+use Rattle.clauses.proofs.Answers.{passing, number-of, place-of}
+use Rattle.meaning.specs.Problem as problems
+use Rattle.meaning.specs.Problem.{outline, problem-by, problem}
+use Rattle.meaning.specs.Check.{InLimits, WellFormed, header-checks, limit-checks, outline-parts, problem-checked, check-problem}
+use Rattle.meaning.proofs.ItemByItem.{all-of-joined}
+use Rattle.meaning.proofs.Check.{first-failing-joined, first-failing-refused, in-limits-if-pass, check-yes, checked-if-well-formed, not-well-formed, proper-if-well-formed, width-of-words}
+use Rattle.problem.specs.declared.Outline.{Outline}
+use Rattle.problem.specs.declared.Refusal.{Refusal}
+use Rattle.problem.specs.declared.Checked.{Checked}
+use Rattle.problem.specs.declared.Checked.the-variants as Checked
+use Rattle.problem.specs.declared.check.PartAnswer.{PartAnswer}
+use Rattle.problem.specs.declared.check.PartAnswer.the-variants.{Passed, Refused}
+use Rattle.problem.specs.Promise.{refusal-answer, outline-of, problem-in, ProperIn, Outlined, CheckedAs}
+use Rattle.problem.specs.CheckParts.{Answers, Fitting}
+use Rattle.problem.proofs.Unique.{refusal-not-yes}
+use Rattle.problem.proofs.Answered.{passed-first, refused-first}
+
+-- ════════ The parts ════════
+
+-- Checks that hand on whatever comes after them all pass.
+pub passes-if-handed-on : (cs : List Check) → ((after : Answer) → after ≡ first-failing cs after) → all-of passing cs ≡ true
+passes-if-handed-on cs hands-on = go (all-of passing cs) refl
+  where
+    go : (b : Bool) → all-of passing cs ≡ b → b ≡ true
+    go true e = refl
+    go false e =
+        let same = hands-on (granted 0) ∙ first-failing-refused cs (granted 0) (granted 1) e ∙ sym (hands-on (granted 1)) in
+        absurd (let places = place-of same in omega arith)
+
+parts-by : (ws : List ℕ) {o o′ : problems.Outline} {r : PartAnswer} → o ≡ o′ → Answers (outline-parts o ws) r → Answers (outline-parts o′ ws) r
+parts-by ws e a = rw e at a
+
+-- The parts before the outline: the header and its limits.
+abbrev pub opening : ℕ → List ℕ → List (List Check)
+opening version ws = header-checks version ws ∷ limit-checks ws ∷ []
+
+module _ (version : ℕ) (ws : List ℕ) where
+  pub in-limits-if-passed : Answers (opening version ws) Passed → InLimits (outline version ws)
+  in-limits-if-passed a =
+      let all = passes-if-handed-on (joined (opening version ws)) (λ after. a .answered after ∙ first-failing-joined (opening version ws) after) in
+      in-limits-if-pass version ws (all-of-joined passing (opening version ws) .0 all .1 .0)
+
+  pub fitting : {s : Outline} → Answers (opening version ws) Passed → outline-of s ≡ outline version ws → Fitting s
+  fitting {s} a e = record {
+    in-limits = rw e (in-limits-if-passed a);
+    width-is = built e;
+  }
+    where
+      built : outline-of s ≡ outline version ws → s .width ≡ s .inputs + s .latches + s .gates
+      built e =
+          ap (λ o. o .width) e
+          ∙ sym (ap (λ o. o .inputs + o .latches + o .gates) e)
+
+  -- ════════ The whole ════════
+
+  pub refused-by-opening : {f : Refusal} → Answers (opening version ws) (Refused f) → CheckedAs version ws (Checked.Refused f)
+  unfolding check-problem problem-checked
+  refused-by-opening a = record { answered = refused-first (opening version ws) (outline-parts (outline version ws) ws) a .answered (granted 0); outlined = tt }
+
+  module _ {s : Outline} (passed : Answers (opening version ws) Passed) (is : outline-of s ≡ outline version ws) where
+    all : {r : PartAnswer} → Answers (outline-parts (outline-of s) ws) r → Answers (header-checks version ws ∷ limit-checks ws ∷ outline-parts (outline version ws) ws) r
+    all b = passed-first (opening version ws) (outline-parts (outline version ws) ws) passed (parts-by ws is b)
+
+    pub refused-by-parts : {f : Refusal} → Answers (outline-parts (outline-of s) ws) (Refused f) → CheckedAs version ws (Checked.Refused f)
+    unfolding check-problem problem-checked
+    refused-by-parts b = record { answered = all b .answered (granted 0); outlined = tt }
+
+    pub good-by-parts : Answers (outline-parts (outline-of s) ws) Passed → CheckedAs version ws (Checked.Good s)
+    unfolding check-problem problem-checked problem-in problem
+    good-by-parts b = record {
+      answered = all b .answered (granted 0);
+      outlined = record { outline-is = is; problem-is = ap (λ o. problem-by o ws) is };
+    }
+
+-- ════════ What a yes says ════════
+
+module _ {version : ℕ} {ws : List ℕ} {s : Outline} (good : CheckedAs version ws (Checked.Good s)) where
+  pub well-formed-if-good : WellFormed version ws
+  well-formed-if-good = check-yes version ws .0 (sym (good .answered))
+
+  pub proper-if-good : ProperIn s ws
+  proper-if-good = record {
+    proper = rw (good .outlined .problem-is) (proper-if-well-formed version ws well-formed-if-good);
+    width-is = rw (good .outlined .problem-is) (width-of-words version ws ∙ ap (λ o. o .width) (sym (good .outlined .outline-is)));
+  }
+
+-- ════════ What comes after the check ════════
+
+-- A refusal is the answer, whatever would come after the check.
+pub refused-whatever : (version : ℕ) (ws : List ℕ) (f : Refusal) (after : Answer) → refusal-answer f ≡ check-problem version ws
+    → refusal-answer f ≡ problem-checked version ws after
+unfolding check-problem
+refused-whatever version ws f after e =
+    e
+    ∙ not-well-formed version ws (granted 0) after
+    (λ w. refusal-not-yes f (number-of (e ∙ checked-if-well-formed version ws (granted 0) w)))

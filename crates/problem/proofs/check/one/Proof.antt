@@ -1,0 +1,73 @@
+-- `one` meets its contract: an arm a kind. Assumes nothing.
+use mathlib.Core.Path.{_≡_, refl, sym, _∙_, ap}
+use mathlib.Core.List.{List, [], _∷_}
+use Prim.Native.Nat.{ℕ}
+use lib.ListN.{getD}
+use borrow.Author.Needs.{needs}
+use denote.Enum.Declared.{tagOf}
+use Rattle.problem.specs.declared.check.Kind.{Kind}
+use Rattle.problem.specs.declared.check.Kind.the-variants.{Latch, Gate, Node}
+use Rattle.problem.proofs.check.Kind.{the-type}
+use Rattle.problem.proofs.check.one.Statement.{statement}
+use Rattle.problem.proofs.check.one.Tie as tie
+
+-- The code goes by the number of the variant: one line a kind.
+abbrev kinds : List Kind
+kinds = Latch ∷ Gate ∷ Node ∷ []
+
+numbered : (k : Kind) → getD kinds (tagOf the-type k) Latch ≡ k
+numbered Latch = refl
+numbered Gate = refl
+numbered Node = refl
+
+is : (k : Kind) {n : ℕ} → tagOf the-type k ≡ n → k ≡ getD kinds n Latch
+is k e = sym (numbered k) ∙ ap (λ n. getD kinds n Latch) e
+
+enum-told : tie.Need-enum-told
+enum-told c = search needs
+
+latch-requires : tie.Need-latch-requires
+latch-requires c κs = search needs
+
+enum-told-2 : tie.Need-enum-told-2
+enum-told-2 c = search needs
+
+gate-requires : tie.Need-gate-requires
+gate-requires c κs =
+    let start = c .before .before .before in
+    (start .pre .0, rw (is (start .args .kind) (c .before .match .keys2)) at (start .pre .1))
+
+enum-told-3 : tie.Need-enum-told-3
+enum-told-3 c = search needs
+
+node-requires : tie.Need-node-requires
+node-requires c κs = search needs
+
+returns : tie.Need-returns
+returns c =
+    let told = c .before .before in
+    rw (is (told .before .before .args .kind) (told .match .keys1)) (c .latch .ensures)
+
+returns-2 : tie.Need-returns-2
+returns-2 c =
+    let told = c .before .before in
+    rw (is (told .before .before .args .kind) (told .match .keys2)) (c .gate .ensures)
+
+returns-3 : tie.Need-returns-3
+returns-3 c =
+    let told = c .before .before in
+    rw (is (told .before .before .args .kind) (told .match .keys3)) (c .node .ensures)
+
+pub one-spec : {M : Type 1} → statement M
+one-spec =
+    tie.close
+    (tie.spec
+    enum-told
+    latch-requires
+    enum-told-2
+    gate-requires
+    enum-told-3
+    node-requires
+    returns
+    returns-2
+    returns-3)
