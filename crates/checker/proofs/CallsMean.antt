@@ -1,19 +1,17 @@
 -- What the promise of each call says of its yes: when it comes, and what it means. Assumes nothing.
 use mathlib.Core.Path.{_≡_, refl, sym, _∙_, ap}
-use mathlib.Core.Bool.{Bool, true, false, not, cond, true≢false}
+use mathlib.Core.Bool.{true}
 use mathlib.Core.List.{List, [], _∷_}
 use mathlib.Core.Logic.{_↔_}
-use Prim.Native.Nat.{ℕ, suc, _≤_}
+use Prim.Native.Nat.{ℕ, _≤_}
 use borrow.Author.Tests.{le-leb, leb-true}
-use lib.Dec.{leb, eqb}
+use lib.Dec.{leb}
 use lib.IntN.{ℤ}
 use lib.ListN.{length}
-use Rattle.clauses.specs.Lists.{all-of, written}
-use Rattle.clauses.specs.Answers.{Answer, Check, first-failing, granted}
-use Rattle.clauses.specs.Clauses.{Clause}
-use Rattle.clauses.specs.Refutations.{Part, literals, part-after, own-after, word-checks, refutation-checks, area-checks, steps-of, judge-steps, judge-clauses}
-use Rattle.clauses.proofs.Satisfaction.{both-true, first-true, second-true, all-of-append}
-use Rattle.clauses.proofs.Answers.{number-of, all-pass-if-granted, steps-judged}
+use Rattle.clauses.specs.Lists.{written}
+use Rattle.clauses.specs.Answers.{granted}
+use Rattle.clauses.proofs.Satisfaction.{first-true}
+use Rattle.clauses.proofs.Answers.{number-of, all-pass-if-granted}
 use Rattle.refutation.specs.declared.RefutationAnswer.{RefutationAnswer}
 use Rattle.refutation.specs.declared.RefutationAnswer.the-variants.{BadCnf}
 use Rattle.refutation.specs.Promise.{answer-of, Judged}

@@ -1,9 +1,9 @@
 -- A problem's CNF passes 16, so its refutations are judged as document 01 says; and each outcome of the judge meets its promise.
 -- Assumes nothing.
 use mathlib.Core.Path.{_≡_, refl, sym, _∙_, ap}
-use mathlib.Core.Bool.{Bool, true, false, not, cond, true≢false, false≢true}
+use mathlib.Core.Bool.{Bool, true, false, not, cond, true≢false}
 use mathlib.Core.List.{List, [], _∷_}
-use Prim.Native.Nat.{ℕ, suc, _<_, _≤_, _^_}
+use Prim.Native.Nat.{ℕ, suc, _≤_}
 use native.Mathlib.Omega.{arith}
 use borrow.Author.Tests.{le-leb, leb-true}
 use lib.IntN.{ℤ}
@@ -38,11 +38,10 @@ use Rattle.problem.proofs.Formed.{passes-if-handed-on}
 use Rattle.encoder.specs.declared.Counts.{Counts}
 use Rattle.encoder.specs.declared.Prepared.{Prepared}
 use Rattle.encoder.specs.declared.Prepared.the-variants as prepared
-use Rattle.encoder.specs.Promise.{counts-of}
-use Rattle.encoder.specs.Preparing.{prepared-then, PreparedAs}
+use Rattle.encoder.specs.Preparing.{PreparedAs}
 use Rattle.checker.specs.declared.Refuted.{Refuted}
 use Rattle.checker.specs.declared.Refuted.the-variants as answers
-use Rattle.checker.specs.Refutation.{refuted-answer, refuted-of, CnfHeld, CnfIn, JudgedFor, JudgedAs}
+use Rattle.checker.specs.Refutation.{refuted-answer, refuted-of, CnfHeld, JudgedFor, JudgedAs}
 
 -- ════════ The words of a CNF pass 16 ════════
 

@@ -12,10 +12,11 @@ use Rattle.clauses.specs.Clauses.{Clause}
 use Rattle.clauses.specs.CnfWords.{words-of}
 use Rattle.meaning.specs.Problem.{Problem}
 use Rattle.meaning.proofs.Numbers.{numbers-append, numbers-suc, each-append}
+use Rattle.meaning.proofs.ItemByItem.{words-append}
 use Rattle.problem.specs.declared.Outline.{Outline}
 use Rattle.encoder.specs.Numbering.{Sized}
 use Rattle.encoder.specs.Writing.{Wrote, Room, RoomFor, WroteFor}
-use Rattle.encoder.proofs.OneAfterAnother.{wrote-none, wrote-then, wrote-length, words-append}
+use Rattle.encoder.proofs.OneAfterAnother.{wrote-none, wrote-then, wrote-length}
 
 -- ════════ The words of the first numbers ════════
 

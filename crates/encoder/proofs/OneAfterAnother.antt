@@ -8,9 +8,9 @@ use native.Mathlib.Omega.{arith}
 use lib.IntN.{ℤ}
 use lib.ListN.{length, set, length-append}
 use Rattle.clauses.specs.Clauses.{Clause}
-use Rattle.clauses.specs.CnfWords.{words-of, ended-by-0}
+use Rattle.clauses.specs.CnfWords.{words-of}
 use Rattle.clauses.proofs.PutAt.{put-at-none, put-at-one, put-at-length, put-at-then}
-use Rattle.meaning.proofs.Numbers.{each-append}
+use Rattle.meaning.proofs.ItemByItem.{words-append}
 use Rattle.encoder.specs.Writing.{Wrote, Room}
 
 -- ════════ Words ════════
@@ -48,9 +48,6 @@ module _ {at m : ℕ} {xs a b : List ℤ} (first : Wrote at xs a b m) where
       }
 
 -- ════════ Clauses ════════
-
-pub words-append : (xs ys : List Clause) → words-of (xs ++ ys) ≡ words-of xs ++ words-of ys
-words-append xs ys = each-append xs ys ended-by-0
 
 module _ {at : ℕ} (xs ys : List Clause) {a : List ℤ} where
   pub room-first : Room at (xs ++ ys) a → Room at xs a

@@ -12,7 +12,6 @@ use Rattle.problem.specs.declared.Refusal.the-variants.{BadVersion, BadLength, 
 use Rattle.problem.proofs.Unique.{refusal-not-yes}
 use Rattle.encoder.specs.declared.Prepared.{Prepared}
 use Rattle.encoder.specs.declared.Prepared.the-variants.{Written, Problem, RoomTooSmall, BadRefutation, AreaTooSmall}
-use Rattle.encoder.specs.Promise.{counts-of}
 use Rattle.encoder.specs.Preparing.{prepared-then, prepared-room, WrittenNumbered, PreparedAs}
 
 -- ════════ A refusal by its answer ════════

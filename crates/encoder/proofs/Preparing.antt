@@ -1,7 +1,7 @@
 -- The outcomes of writing a CNF for a refutation, from the numbers of the CNF and of the steps. Assumes nothing.
 use mathlib.Core.Path.{_≡_, refl, sym, _∙_, ap}
 use mathlib.Core.Bool.{true}
-use mathlib.Core.List.{List, [], _∷_}
+use mathlib.Core.List.{List}
 use Prim.Native.Nat.{ℕ, suc, _+_, _<_, _≤_}
 use native.Mathlib.Nat.{zero-add}
 use native.Mathlib.Numerals.{add-one}
@@ -18,8 +18,7 @@ use Rattle.clauses.proofs.Answers.{passing, first-failing-passed, number-of, re
 use Rattle.clauses.proofs.ReadBack.{clauses-back, within-no-zeros, clauses-fewer}
 use Rattle.meaning.specs.Answers.{room-too-small}
 use Rattle.meaning.specs.Problem as problems
-use Rattle.meaning.specs.Problem.{problem}
-use Rattle.meaning.specs.Check.{Proper, problem-checked}
+use Rattle.meaning.specs.Check.{Proper}
 use Rattle.meaning.specs.Cnf.{cnf, cnf-words, variables}
 use Rattle.meaning.specs.Calls.{room-checked, before-steps}
 use Rattle.meaning.proofs.Check.{checked-if-well-formed}
@@ -35,7 +34,7 @@ use Rattle.encoder.specs.declared.Prepared.{Prepared}
 use Rattle.encoder.specs.declared.Prepared.the-variants.{Written, Problem, RoomTooSmall, BadRefutation, AreaTooSmall}
 use Rattle.encoder.specs.Promise.{counts-of}
 use Rattle.encoder.specs.Writing.{Wrote}
-use Rattle.encoder.specs.Preparing.{prepared-room, WrittenNumbered, PreparedFor, PreparedAs}
+use Rattle.encoder.specs.Preparing.{PreparedFor, PreparedAs}
 
 -- ════════ The numbers of a good problem's CNF ════════
 

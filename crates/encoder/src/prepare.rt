@@ -8,8 +8,7 @@ use problem::Outline;
 use problem::check::check;
 use refutation::WordsCounted;
 use refutation::words::count_steps;
-ghost use Prim.Native.Nat.{_^_, _<_};
-ghost use lib.ListN.{length};
+ghost use Prim.Native.Nat.{_<_};
 ghost use Rattle.problem.specs.Promise.{problem-in, ProperIn};
 ghost use Rattle.encoder.specs.Preparing.{PreparedAs, PreparedFor};
 

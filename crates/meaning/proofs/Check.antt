@@ -2,18 +2,18 @@
 use mathlib.Core.Path.{_≡_, refl, sym, _∙_, ap}
 use mathlib.Core.Logic.{_↔_}
 use mathlib.Core.Bool.{Bool, true, false, true≢false}
-use mathlib.Core.List.{List, [], _∷_, _++_}
+use mathlib.Core.List.{List, [], _∷_}
 use Prim.Native.Nat.{ℕ, zero, suc, _+_, _*_, _≤_, _<_, zero-le}
 use native.Mathlib.Omega.{arith}
 use borrow.Author.Tests.{leb-true, le-leb, ltb-true, lt-ltb, eqb-true, eq-eqb}
-use lib.Dec.{leb, ltb, lit<}
+use lib.Dec.{leb, lit<}
 use lib.ListN.{length, getD, List·getD-eq-default}
 use Rattle.clauses.specs.Lists.{all-of, joined}
 use Rattle.clauses.specs.Answers.{Answer, Check, check, first-failing, granted}
-use Rattle.clauses.proofs.Satisfaction.{both-true, false-if-not-true, all-of-append, all-of-first, all-of-second, all-of-at, first-true, second-true}
+use Rattle.clauses.proofs.Satisfaction.{both-true, false-if-not-true, all-of-at, first-true, second-true}
 use Rattle.clauses.proofs.Answers.{passing, refusing, first-failing-append, first-failing-passed, all-pass-if-yes, number-of}
-use Rattle.meaning.specs.Problem.{Problem, Latch, Gate, Node, atom, W, latch, gate, node, Outline, outline, header-words, word, node-place, words-in-all, children, node-of, read-latch, read-gate, read-node, problem-by, problem}
-use Rattle.meaning.specs.Check.{largest-literal, first-right, second-right, children-of, header-checks, limit-check, limit-checks, length-checks, latch-checks, gate-checks, node-checks, each-below, check-parts, first-failing-part, problem-checked, check-problem, LatchRight, GateRight, FirstRight, SecondRight, NodeRight, InLimits, WellFormed, NodeProper, Proper}
+use Rattle.meaning.specs.Problem.{Problem, atom, W, latch, gate, node, Outline, outline, word, node-place, children, node-of, read-latch, read-gate, read-node, problem-by, problem}
+use Rattle.meaning.specs.Check.{largest-literal, first-right, second-right, children-of, header-checks, limit-check, limit-checks, length-checks, latch-checks, gate-checks, node-checks, check-parts, first-failing-part, problem-checked, check-problem, LatchRight, GateRight, FirstRight, SecondRight, NodeRight, InLimits, WellFormed, NodeProper, Proper}
 use Rattle.meaning.proofs.ItemByItem.{_and_, all-of-joined}
 use Rattle.meaning.proofs.Numbers.{length-map-numbers, getD-map-numbers, all-of-each-below, all-of-below}
 

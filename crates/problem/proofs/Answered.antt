@@ -7,14 +7,14 @@ use native.Mathlib.Numerals.{add-one}
 use native.Mathlib.Omega.{arith}
 use denote.Enum.Declared.{tagOf}
 use Rattle.clauses.specs.Lists.{numbers, each}
-use Rattle.clauses.specs.Answers.{Answer, Check, check, first-failing}
+use Rattle.clauses.specs.Answers.{Answer, Check, check}
 use Rattle.clauses.proofs.Answers.{first-failing-append}
 use Rattle.meaning.specs.Check.{each-below, first-failing-part}
 use Rattle.problem.specs.declared.Refusal.{Refusal}
 use Rattle.problem.specs.declared.check.PartAnswer.{PartAnswer}
 use Rattle.problem.specs.declared.check.PartAnswer.the-variants.{Passed, Refused}
 use Rattle.problem.specs.Promise.{refusal-answer}
-use Rattle.problem.specs.CheckParts.{answer-then, Answers}
+use Rattle.problem.specs.CheckParts.{Answers}
 use Rattle.problem.proofs.check.PartAnswer.{the-type}
 
 -- The code goes by the number of the variant: 0 is a pass.

@@ -18,7 +18,7 @@ use Rattle.problem.specs.declared.Checked.{Checked}
 use Rattle.problem.specs.declared.Checked.the-variants as Checked
 use Rattle.problem.specs.declared.check.PartAnswer.{PartAnswer}
 use Rattle.problem.specs.declared.check.PartAnswer.the-variants.{Passed, Refused}
-use Rattle.problem.specs.Promise.{refusal-answer, outline-of, problem-in, ProperIn, Outlined, CheckedAs}
+use Rattle.problem.specs.Promise.{refusal-answer, outline-of, problem-in, ProperIn, CheckedAs}
 use Rattle.problem.specs.CheckParts.{Answers, Fitting}
 use Rattle.problem.proofs.Unique.{refusal-not-yes}
 use Rattle.problem.proofs.Answered.{passed-first, refused-first}

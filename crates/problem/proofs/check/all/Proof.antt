@@ -1,5 +1,4 @@
 -- `all` meets its contract: before each turn the checks of the numbers passed are passed. Assumes nothing.
-use mathlib.Core.Path.{_≡_, refl}
 use Prim.Native.Nat.{_-_, _<_}
 use native.Mathlib.Omega.{arith}
 use borrow.Author.Needs.{needs}

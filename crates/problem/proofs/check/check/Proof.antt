@@ -1,7 +1,6 @@
 -- `check` meets its contract: each answer is that of the first part that refuses. Assumes nothing.
 use borrow.Author.Needs.{needs}
 use mathlib.Core.List.{List}
-use mathlib.Core.Path.{_≡_}
 use Prim.Native.Nat.{ℕ}
 use Rattle.problem.specs.declared.check.PartAnswer.the-variants.{Passed}
 use Rattle.problem.specs.CheckParts.{Answers}

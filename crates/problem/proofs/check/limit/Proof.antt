@@ -1,11 +1,8 @@
 -- `limit` meets its contract: the word against the least and the most. Assumes nothing.
-use mathlib.Core.List.{List}
-use mathlib.Core.Path.{_≡_, refl, _∙_, sym}
-use mathlib.Core.Bool.{Bool, true, false, _&&_}
-use Prim.Native.Nat.{ℕ, _≤_, _<_}
+use mathlib.Core.Path.{refl}
+use Prim.Native.Nat.{ℕ, _≤_}
 use borrow.Author.Needs.{needs}
 use borrow.Author.Tests.{le-leb, lt-leb}
-use lib.Dec.{leb}
 use Rattle.clauses.proofs.Satisfaction.{both-true}
 use Rattle.meaning.specs.Problem.{word}
 use Rattle.problem.proofs.Answered.{pass, fail, all-pass}

@@ -1,6 +1,6 @@
 -- `node` meets its contract: the op, then its words a and b. Assumes nothing.
-use mathlib.Core.List.{List, [], _∷_}
-use mathlib.Core.Path.{_≡_, refl, sym, _∙_, ap}
+use mathlib.Core.List.{[], _∷_}
+use mathlib.Core.Path.{_≡_, sym, _∙_, ap}
 use Prim.Native.Nat.{ℕ, _+_}
 use lib.ListN.{drop}
 use borrow.Author.Tests.{lt-ltb, le-ltb, not-true, not-false}

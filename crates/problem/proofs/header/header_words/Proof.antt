@@ -1,5 +1,4 @@
 -- `header_words` meets its contract: one arm a version. Assumes nothing.
-use borrow.Author.Needs.{needs}
 use Rattle.meaning.specs.Problem.{header-words}
 use borrow.Author.Tests.{ne-eqb}
 use Rattle.problem.proofs.header.header_words.Statement.{statement}

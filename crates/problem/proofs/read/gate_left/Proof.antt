@@ -1,6 +1,6 @@
 -- `gate_left` meets its contract: the word at its place, and past the end what the problem's list has there. Assumes nothing.
 use borrow.Author.Needs.{needs}
-use mathlib.Core.Path.{sym, _∙_}
+use mathlib.Core.Path.{sym}
 use Rattle.problem.proofs.Outlines.{left-read, left-past}
 use Rattle.problem.proofs.read.gate_left.Statement.{statement}
 use Rattle.problem.proofs.read.gate_left.Tie as tie

@@ -1,6 +1,6 @@
 -- `gate_right` meets its contract: the word at its place, and past the end what the problem's list has there. Assumes nothing.
 use borrow.Author.Needs.{needs}
-use mathlib.Core.Path.{sym, _∙_}
+use mathlib.Core.Path.{sym}
 use Rattle.problem.proofs.Outlines.{right-read, right-past}
 use Rattle.problem.proofs.read.gate_right.Statement.{statement}
 use Rattle.problem.proofs.read.gate_right.Tie as tie

@@ -1,6 +1,6 @@
 -- `latch_next` meets its contract: the word at its place, and past the end what the problem's list has there. Assumes nothing.
 use borrow.Author.Needs.{needs}
-use mathlib.Core.Path.{sym, _∙_}
+use mathlib.Core.Path.{sym}
 use Rattle.problem.proofs.Outlines.{next-read, next-past}
 use Rattle.problem.proofs.read.latch_next.Statement.{statement}
 use Rattle.problem.proofs.read.latch_next.Tie as tie
