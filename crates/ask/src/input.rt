@@ -1,5 +1,7 @@
 // The numbers and buffers of a request, read from standard input. All numbers are big-endian.
 use libc::STDIN_FILENO;
+use reading::Reading;
+use reading::read_all;
 ghost use Prim.Native.Nat.{_+_, _*_, _≤_};
 ghost use lib.ListN.{length};
 ghost use Rattle.ask.specs.Capacities.{problem-words, witness-bytes, signed-words};
@@ -23,17 +25,25 @@ pub const LARGEST: usize = 4 * CNF_WORDS;
 pub enum Fault {
     TooLong,
     CutShort,
+    Unread,
+}
+
+// Whether a buffer has all of its bytes, or why not.
+pub enum Bytes {
+    All,
+    Broken(Fault),
 }
 
 // The byte that opens a request, if there is another.
 pub enum Asked {
     Call(u8),
     End,
+    Unread,
 }
 
 pub enum Number {
     Value(u32),
-    Missing,
+    Broken(Fault),
 }
 
 // How many items a buffer has, or why it was not read.
@@ -42,11 +52,17 @@ pub enum Got {
     Broken(Fault),
 }
 
-// Whether there are so many bytes; they go to the start of the buffer. A part `0..size` asks only that it fits, `..size` more.
-fn fills(bytes: &mut [u8], size: usize) -> bool
+// Reads so many bytes to the start of the buffer. A part `0..size` asks only that it fits, `..size` more.
+fn fill(bytes: &mut [u8], size: usize) -> Bytes
     requires { ⌜ size ≤ length (now bytes) ⌝ }
 {
-    io::read_full(STDIN_FILENO, &mut bytes[0..size]) == size
+    let Reading::Bytes(count) = read_all(STDIN_FILENO, &mut bytes[0..size]) else {
+        return Bytes::Broken(Fault::Unread);
+    };
+    if count < size {
+        return Bytes::Broken(Fault::CutShort);
+    }
+    Bytes::All
 }
 
 fn wide(byte: u8) -> u32 {
@@ -64,19 +80,20 @@ fn number_at(bytes: &[u8], at: usize) -> u32
 
 pub(crate) fn next_call() -> Asked {
     let mut byte = [0u8; 1];
-    if fills(&mut byte, 1) {
-        Asked::Call(byte[0])
-    } else {
-        Asked::End
+    match fill(&mut byte, 1) {
+        Bytes::All => Asked::Call(byte[0]),
+        Bytes::Broken(fault) => match fault {
+            Fault::Unread => Asked::Unread,
+            _ => Asked::End,
+        },
     }
 }
 
 pub(crate) fn next_number() -> Number {
     let mut bytes = [0u8; 4];
-    if fills(&mut bytes, 4) {
-        Number::Value(number_at(&bytes, 0))
-    } else {
-        Number::Missing
+    match fill(&mut bytes, 4) {
+        Bytes::All => Number::Value(number_at(&bytes, 0)),
+        Bytes::Broken(fault) => Number::Broken(fault),
     }
 }
 
@@ -84,8 +101,9 @@ pub(crate) fn next_number() -> Number {
 pub(crate) fn next_count(most: usize) -> Got
     ensures { λ r. ⌜ Held r most ⌝ }
 {
-    let Number::Value(number) = next_number() else {
-        return Got::Broken(Fault::CutShort);
+    let number = match next_number() {
+        Number::Value(n) => n,
+        Number::Broken(fault) => return Got::Broken(fault),
     };
     let count = number as usize;
     if most < count {
@@ -130,8 +148,8 @@ fn next_bytes(bytes: &mut [u8; LARGEST], most: usize) -> Got
 {
     let got = next_count(most);
     if let Got::Items(count) = got {
-        if !fills(bytes, 4 * count) {
-            return Got::Broken(Fault::CutShort);
+        if let Bytes::Broken(fault) = fill(bytes, 4 * count) {
+            return Got::Broken(fault);
         }
     }
     got
@@ -164,8 +182,8 @@ pub(crate) fn next_witness(witness: &mut [u8; WITNESS_BYTES]) -> Got
 {
     let got = next_count(WITNESS_BYTES);
     if let Got::Items(count) = got {
-        if !fills(witness, count) {
-            return Got::Broken(Fault::CutShort);
+        if let Bytes::Broken(fault) = fill(witness, count) {
+            return Got::Broken(fault);
         }
     }
     got

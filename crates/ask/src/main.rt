@@ -54,12 +54,20 @@ fn answer_one(
     by_numbers: &mut [u64; AREA_WORDS],
     by_clauses: &mut [u64; AREA_WORDS],
 ) -> bool {
-    let Asked::Call(call) = input::next_call() else {
-        return false;
+    let call = match input::next_call() {
+        Asked::Call(byte) => byte,
+        Asked::End => return false,
+        Asked::Unread => {
+            output::print_fault(Fault::Unread);
+            return false;
+        }
     };
-    let Number::Value(number) = input::next_number() else {
-        output::print_fault(Fault::CutShort);
-        return false;
+    let number = match input::next_number() {
+        Number::Value(n) => n,
+        Number::Broken(fault) => {
+            output::print_fault(fault);
+            return false;
+        }
     };
     match dispatch(
         call,

@@ -1,5 +1,6 @@
 // Lines of text, gathered in a lent buffer. A place is where the next byte goes; a buffer that is full is written out at once.
 use crate::input::Fault;
+use libc::STDERR_FILENO;
 use libc::STDOUT_FILENO;
 use refutation::literals::variable;
 ghost use Prim.Native.Nat.{_<_};
@@ -146,10 +147,12 @@ pub(crate) fn print_all(
     finish(clauses, &out);
 }
 
+// A request that is not answered has its line among the answers; input that cannot be read has it on standard error.
 pub(crate) fn print_fault(fault: Fault) {
     match fault {
         Fault::TooLong => io::write_all(STDOUT_FILENO, b"too long\n"),
         Fault::CutShort => io::write_all(STDOUT_FILENO, b"cut short\n"),
+        Fault::Unread => io::write_all(STDERR_FILENO, b"ask: standard input could not be read\n"),
     }
     ;
 }

@@ -1,7 +1,7 @@
 -- What the promise of each call says of its yes: when it comes, and what it means. Assumes nothing.
 use mathlib.Core.Path.{_≡_, refl, sym, _∙_, ap}
 use mathlib.Core.Bool.{true}
-use mathlib.Core.List.{List, [], _∷_}
+use mathlib.Core.List.{List}
 use mathlib.Core.Logic.{_↔_}
 use Prim.Native.Nat.{ℕ, _≤_}
 use borrow.Author.Tests.{le-leb, leb-true}
@@ -16,23 +16,24 @@ use Rattle.refutation.specs.declared.RefutationAnswer.{RefutationAnswer}
 use Rattle.refutation.specs.declared.RefutationAnswer.the-variants.{BadCnf}
 use Rattle.refutation.specs.Promise.{answer-of, Judged}
 use Rattle.meaning.specs.Problem.{Problem, problem}
-use Rattle.meaning.specs.Check.{WellFormed, Proper}
+use Rattle.meaning.specs.Proper.{Proper}
 use Rattle.meaning.specs.Runs.{Position, EndlessRun}
 use Rattle.meaning.specs.Formulas.{formula, Holds}
 use Rattle.meaning.specs.Bounded.{prefix, lasso}
-use Rattle.meaning.specs.Witnesses.{shape, first-latches, inputs-at, lasso-path, Witness, judge-bytes}
+use Rattle.meaning.specs.Witnesses.{shape, first-latches, inputs-at, lasso-path, Witness}
 use Rattle.meaning.specs.Cnf.{cnf, cnf-words, variables}
-use Rattle.meaning.specs.Calls.{room-check, room-checked, write-cnf, room-after-writing, judge-witness, judge-refutation}
-use Rattle.meaning.proofs.Check.{check-yes, checked-if-well-formed, well-formed-if-checked, proper-if-well-formed}
-use Rattle.meaning.proofs.Counts.{variable-count-is, clause-count-is, word-count-is}
+use Rattle.meaning.specs.Calls.{WellFormed, judge-bytes, room-checks, write-cnf, room-after-writing, judge-witness}
+use Rattle.meaning.proofs.Check.{checked-if-well-formed, well-formed-if-checked}
+use Rattle.meaning.proofs.Calls.{write-cnf-is, refutation-by-clauses}
 use Rattle.pairing.specs.Bounds.{at-bound}
 use Rattle.pairing.proofs.Witnesses.{accepted-is-witness}
 use Rattle.pairing.proofs.Judged.{judged-is-witness}
 use Rattle.pairing.proofs.Endless.{lasso-true, prefix-true}
+use Rattle.problem.specs.declared.Outline.{Outline}
 use Rattle.problem.specs.declared.Checked.{Checked}
 use Rattle.problem.specs.declared.Checked.the-variants as checks
 use Rattle.problem.specs.Promise as checking
-use Rattle.problem.proofs.Unique.{checked-unique}
+use Rattle.problem.proofs.Unique.{refusal-not-yes}
 use Rattle.encoder.specs.declared.Encoded.{Encoded}
 use Rattle.encoder.specs.declared.Encoded.the-variants.{Written}
 use Rattle.encoder.specs.declared.ProblemCounted.{ProblemCounted}
@@ -51,24 +52,20 @@ use Rattle.checker.proofs.ProblemRefutation.{judged-as-clauses, clauses
 -- ════════ The check ════════
 
 module _ (version : ℕ) (ws : List ℕ) where
-  pub check-good : {r : Checked} → checking.CheckedAs version ws r → (r ≡ checks.Good (checking.outline-in version ws)) ↔ WellFormed version ws
-  unfolding checking.problem-in problem
-  check-good {r} c = (
-    λ e. check-yes version ws .0 (sym (c .answered) ∙ ap checking.answer-of e),
-    λ w.
-        checked-unique version ws r (checks.Good (checking.outline-in version ws)) c
-        (record { answered = sym (check-yes version ws .1 w); outlined = record { outline-is = refl; problem-is = refl } }),
-  )
+  pub check-good : {r : Checked} → checking.CheckedAs version ws r → ((s : Outline) × (r ≡ checks.Good s)) ↔ WellFormed version ws
+  check-good {r} c = (λ e. sym (c .answered) ∙ ap checking.answer-of (e .1), λ w. good r (c .answered ∙ w))
+    where
+      good : (r : Checked) → checking.answer-of r ≡ granted 0 → (s : Outline) × (r ≡ checks.Good s)
+      good (checks.Good s) e = (s, refl)
+      good (checks.Refused f) e = absurd (refusal-not-yes f (number-of e))
 
   -- The numbers are those of the CNF itself.
   pub cnf-counted : {r : ProblemCounted} → encoding.CountedAs version ws r
       → (r ≡ counts.Good (record { variables = variables (problem version ws); clauses = length (cnf (problem version ws)); words = length (cnf-words (problem version ws)) }))
       ↔ WellFormed version ws
   cnf-counted {r} c = (
-    λ e. check-yes version ws .0 (sym (c .answered) ∙ ap encoding.counted-answer e),
-    λ w.
-        rw (variable-count-is (problem version ws) (proper-if-well-formed version ws w .nodes-some), clause-count-is, word-count-is)
-        (counted-unique version ws r _ c (record { answered = sym (check-yes version ws .1 w); numbered = refl })),
+    λ e. sym (c .answered) ∙ ap encoding.counted-answer e,
+    λ w. counted-unique version ws r _ c (record { answered = sym w; numbered = refl }),
   )
 
 -- ════════ The CNF writer ════════
@@ -76,15 +73,17 @@ module _ (version : ℕ) (ws : List ℕ) where
 module _ (version : ℕ) (ws : List ℕ) (before : List ℤ) where
   granted-if-room : WellFormed version ws → length (cnf-words (problem version ws)) ≤ length before
       → write-cnf version ws (length before) ≡ granted (length (cnf-words (problem version ws)))
-  unfolding write-cnf room-checked
-  granted-if-room w fits = checked-if-well-formed version ws _ w ∙ rw (le-leb (length (cnf-words (problem version ws))) (length before) fits)
+  granted-if-room w fits =
+      write-cnf-is version ws (length before)
+      ∙ checked-if-well-formed version ws _ w
+      ∙ rw (le-leb (length (cnf-words (problem version ws))) (length before) fits)
 
   room-if-granted : {n : ℕ} → write-cnf version ws (length before) ≡ granted n
       → WellFormed version ws × (length (cnf-words (problem version ws)) ≤ length before)
-  unfolding write-cnf room-checked
   room-if-granted e =
-      let w = well-formed-if-checked version ws _ (number-of e) in
-      let passes = all-pass-if-granted (room-check (problem version ws) (length before) ∷ []) _ refl (sym (checked-if-well-formed version ws _ w) ∙ e) in
+      let checked = sym (write-cnf-is version ws (length before)) ∙ e in
+      let w = well-formed-if-checked version ws _ (number-of checked) in
+      let passes = all-pass-if-granted (room-checks (problem version ws) (length before)) _ refl (sym (checked-if-well-formed version ws _ w) ∙ checked) in
       (w, leb-true _ _ (first-true (leb (length (cnf-words (problem version ws))) (length before)) true passes))
 
   module _ {r : Encoded} {after : List ℤ} (written-as : encoding.EncodedAs version ws before r after) where
@@ -126,8 +125,9 @@ pub accepted-refutation : {version : ℕ} {ws : List ℕ} {refutation room : Lis
     {r : Refuted} {room′ : List ℤ} {numbers′ clauses′ : List ℕ}
     → JudgedAs version ws refutation room numbers clauses r room′ numbers′ clauses′ → r ≡ Yes
     → WellFormed version ws × ((j : ℕ) → j ≤ problem version ws .bound → (bs : List ℕ) → Witness (at-bound (problem version ws) j) bs → ⊥)
-unfolding judge-refutation
-accepted-refutation {version} {ws} a e = (well-formed-if-checked version ws _ (number-of (sym (a .answered) ∙ ap refuted-answer e)), a .excludes e)
+accepted-refutation {version} {ws} {refutation} {room} {numbers} {clauses} a e =
+    let yes = sym (a .answered ∙ refutation-by-clauses version ws refutation (length room) (length numbers) (length clauses)) ∙ ap refuted-answer e in
+    (well-formed-if-checked version ws _ (number-of yes), a .excludes e)
 
 -- ════════ 16 never answers for a problem's CNF ════════
 

@@ -1,33 +1,41 @@
--- The page to trust: the three demands as theorems, each stated in full and proved by the theorem that it names. What is to be believed is
--- the definitions that the statements name, all of them in crates/*/specs. Assumes nothing.
-use mathlib.Core.{Path._≡_, Bool.true, List.List, List.List·Memᴰ, Logic._↔_}
-use Prim.Native.Nat.{ℕ, _+_, _≤_, _<_}
-use lib.{IntN.ℤ, ListN.length}
-use Rattle.clauses.specs.{Lists.written, Limits.variables-limit, Answers.granted, CnfWords.clauses-of, Refutable.Refutation}
-use Rattle.clauses.specs.Clauses.{Clause, Assignment, clause-true, Satisfies, Within}
-use Rattle.clauses.specs.Refutations.{Step, Lookup, SatisfiesNamed, step-accepted, judge-steps}
-use Rattle.refutation.specs.declared.{RefutationAnswer.RefutationAnswer, WordsCounted.WordsCounted}
+-- The page to trust: the three demands as theorems of the calls of document 01, each stated in full and proved by the theorem that it names.
+-- What is to be believed is the definitions that the statements name, all of them in crates/*/specs. OtherCalls has the other public functions.
+-- Assumes nothing.
+use mathlib.Core.{Path._≡_, List.List, List.List·Memᴰ, Logic._↔_}
+use mathlib.Core.Bool.{Bool, true, false, _&&_, _||_}
+use Prim.Native.Nat.{ℕ, suc, _+_, _-_, _^_, _≤_, _<_}
+use lib.{IntN.ℤ, IntN.pos, ListN.length, ListN.getD}
+use Rattle.clauses.specs.{Lists.written, Limits.variables-limit, Answers.granted, Answers.first-failing}
+use Rattle.clauses.specs.Clauses.{Clause, Assignment, size, clause-true, Satisfies, Within}
+use Rattle.clauses.specs.CnfWords.{clauses-of, cnf-checks}
+use Rattle.clauses.specs.Refutations.{Step, steps-of, Lookup, SatisfiesNamed, step-accepted, judge-steps, numbers-area, clauses-area}
+use Rattle.clauses.specs.Refutable.{Refutation, WordsFit, AcceptedWords}
+use Rattle.refutation.specs.declared.{RefutationAnswer.RefutationAnswer}
 use Rattle.refutation.specs.declared.RefutationAnswer.the-variants as cnf-judge
-use Rattle.refutation.specs.Promise.{StepsCounted, Judged}
-use Rattle.meaning.specs.Problem.{Problem, problem}
-use Rattle.meaning.specs.Check.{check-problem, WellFormed, Proper}
+use Rattle.refutation.specs.Promise.{Judged}
+use Rattle.meaning.specs.Problem as problems
+use Rattle.meaning.specs.Problem.{Problem, problem, node}
 use Rattle.meaning.specs.Runs.{Position, StartsRight, EndlessRun}
-use Rattle.meaning.specs.{Formulas.formula, Formulas.Holds, Bounded.prefix, Bounded.lasso}
-use Rattle.meaning.specs.Witnesses.{witness-length, byte, shape, first-latches, inputs-at, Closes, lasso-path, Witness, judge-bytes}
+use Rattle.meaning.specs.Formulas.{Formula, until, release, formula, Holds}
+use Rattle.meaning.specs.Bounded.{prefix, lasso, prefix-value}
+use Rattle.meaning.specs.Witnesses.{witness-length, byte, shape, first-latches, inputs-at, Closes, lasso-path, Witness}
 use Rattle.meaning.specs.Cnf.{cnf, cnf-words, variables}
-use Rattle.meaning.specs.{Calls.judge-witness, Calls.judge-refutation, Cases.Case, Cases.thirteen-cases}
+use Rattle.meaning.specs.Calls.{WellFormed, judge-bytes, judge-witness, judge-refutation}
+use Rattle.meaning.specs.JobFile.{printed}
+use Rattle.meaning.specs.Cases.{Case, thirteen-cases, limit-words}
+use Rattle.meaning.proofs.Check.{proper-if-well-formed}
 use Rattle.pairing.specs.{Bounds.at-bound, Bounds.Counted, Pairs.Model, Pairs.PairsOff, Pairs.WitnessAtOrBelow}
-use Rattle.problem.specs.declared.{Checked.Checked, Checked.the-variants.Good, Node.Node}
-use Rattle.problem.specs.Promise.{outline-in, CheckedAs, node-read}
-use Rattle.encoder.specs.declared.{Encoded.Encoded, Encoded.the-variants.Written, ProblemCounted.ProblemCounted, Prepared.Prepared}
+use Rattle.pairing.specs.{WithoutLoop.StrictWitness, Refutable.AcceptedRefutation}
+use Rattle.problem.specs.declared.{Outline.Outline, Checked.Checked, Checked.the-variants.Good}
+use Rattle.problem.specs.Promise.{CheckedAs}
+use Rattle.encoder.specs.declared.{Encoded.Encoded, Encoded.the-variants.Written, ProblemCounted.ProblemCounted}
 use Rattle.encoder.specs.declared.ProblemCounted.the-variants as counts
-use Rattle.encoder.specs.Preparing.{PreparedAs}
 use Rattle.encoder.specs.Promise.{EncodedAs, CountedAs}
 use Rattle.witness.specs.declared.WitnessAnswer.{WitnessAnswer}
 use Rattle.witness.specs.declared.WitnessAnswer.the-variants as witness-judge
 use Rattle.witness.specs.Promise.{answer-of}
-use Rattle.job_file.specs.declared.{job.Job.Job, text.Printed.Printed}
-use Rattle.job_file.specs.Promise.{JobRead, Prints}
+use Rattle.job_file.specs.declared.{text.Printed.Printed}
+use Rattle.job_file.specs.Promise.{Prints}
 use Rattle.checker.specs.declared.{Refuted.Refuted}
 use Rattle.checker.specs.declared.Refuted.the-variants as problem-judge
 use Rattle.checker.specs.{Refutation.JudgedAs}
@@ -49,12 +57,6 @@ encoded-unique = Rattle.encoder.proofs.Unique.encoded-unique
 pub counted-unique : (version : ℕ) (ws : List ℕ) (r r′ : ProblemCounted) → CountedAs version ws r → CountedAs version ws r′ → r ≡ r′
 counted-unique = Rattle.encoder.proofs.Unique.counted-unique
 
--- The CNF written for a refutation.
-pub prepared-unique : {version : ℕ} {ws : List ℕ} {refutation : List ℤ} {numbers places : ℕ} {before : List ℤ} {r r′ : Prepared} {after after′ : List ℤ}
-    → PreparedAs version ws refutation numbers places before r after → PreparedAs version ws refutation numbers places before r′ after′
-    → (r ≡ r′) × (after ≡ after′)
-prepared-unique = Rattle.encoder.proofs.PreparedUnique.prepared-unique
-
 -- The witness judge, which changes no buffer.
 pub judgement-unique : (version : ℕ) (ws bs : List ℕ) (r r′ : WitnessAnswer)
     → answer-of r ≡ judge-witness version ws bs → answer-of r′ ≡ judge-witness version ws bs → r ≡ r′
@@ -65,10 +67,6 @@ pub judged-unique : {v : ℕ} {cnf refutation : List ℤ} {numbers clauses : Lis
     → Judged v cnf refutation numbers clauses r n c → Judged v cnf refutation numbers clauses r′ n′ c′ → (r ≡ r′) × (n ≡ n′) × (c ≡ c′)
 judged-unique = Rattle.refutation.proofs.Unique.judged-unique
 
--- The number of a refutation's steps, for v variables and c clauses.
-pub steps-unique : (v c : ℕ) (refutation : List ℤ) (r r′ : WordsCounted) → StepsCounted v c refutation r → StepsCounted v c refutation r′ → r ≡ r′
-steps-unique = Rattle.refutation.proofs.Unique.counted-unique
-
 -- The judge of a problem's refutation, with the CNF room and both work areas.
 pub refuted-unique : {version : ℕ} {ws : List ℕ} {refutation room : List ℤ} {numbers clauses : List ℕ}
     {r r′ : Refuted} {room₁ room₂ : List ℤ} {n n′ c c′ : List ℕ}
@@ -76,28 +74,13 @@ pub refuted-unique : {version : ℕ} {ws : List ℕ} {refutation room : List ℤ
     → (r ≡ r′) × (room₁ ≡ room₂) × (n ≡ n′) × (c ≡ c′)
 refuted-unique = Rattle.checker.proofs.RefutedUnique.refuted-unique
 
--- The job file.
-pub job-unique : (bs : List ℕ) (j j′ : Job) → JobRead bs j → JobRead bs j′ → j ≡ j′
-job-unique = Rattle.job_file.proofs.Unique.job-unique
+-- What the program prints for a job: `printed` of its bytes where it fits.
+pub job-printed : (bs out : List ℕ) {r r′ : Printed} {p p′ : List ℕ} → Prints (printed bs) out r p → Prints (printed bs) out r′ p′ → (r ≡ r′) × (p ≡ p′)
+job-printed bs = Rattle.job_file.proofs.Unique.printed-unique (printed bs)
 
--- What is printed: of a job, of a CNF, of a refusal.
-pub printed-unique : (text out : List ℕ) {r r′ : Printed} {p p′ : List ℕ} → Prints text out r p → Prints text out r′ p′ → (r ≡ r′) × (p ≡ p′)
-printed-unique = Rattle.job_file.proofs.Unique.printed-unique
-
--- The readers of a problem's parts promise equations; of one node:
-pub node-unique : (r r′ : Node) → node-read r ≡ node-read r′ → r ≡ r′
-node-unique = Rattle.problem.proofs.Unique.node-unique
-
--- A yes of the check is exactly "well formed"; of the call, with the outline of the version and the words.
-pub check-yes : (version : ℕ) (ws : List ℕ) → (check-problem version ws ≡ granted 0) ↔ WellFormed version ws
-check-yes = Rattle.meaning.proofs.Check.check-yes
-
-pub check-good : (version : ℕ) (ws : List ℕ) {r : Checked} → CheckedAs version ws r → (r ≡ Good (outline-in version ws)) ↔ WellFormed version ws
+-- Words are well formed where `check-problem` says yes; of the call, where it answers an outline, which by its promise is theirs.
+pub check-good : (version : ℕ) (ws : List ℕ) {r : Checked} → CheckedAs version ws r → ((s : Outline) × (r ≡ Good s)) ↔ WellFormed version ws
 check-good = Rattle.checker.proofs.CallsMean.check-good
-
--- The problem of well-formed words is as the theorems below ask.
-pub proper-if-well-formed : (version : ℕ) (ws : List ℕ) → WellFormed version ws → Proper (problem version ws)
-proper-if-well-formed = Rattle.meaning.proofs.Check.proper-if-well-formed
 
 -- ════════ Demand 2 ════════
 
@@ -117,6 +100,14 @@ pub cnf-counted : (version : ℕ) (ws : List ℕ) {r : ProblemCounted} → Count
     → (r ≡ counts.Good (record { variables = variables (problem version ws); clauses = length (cnf (problem version ws)); words = length (cnf-words (problem version ws)) }))
     ↔ WellFormed version ws
 cnf-counted = Rattle.checker.proofs.CallsMean.cnf-counted
+
+-- What a solver reads in these words are the clauses that the theorems below speak of.
+pub cnf-read-back : (version : ℕ) (ws : List ℕ) → WellFormed version ws → clauses-of (cnf-words (problem version ws)) ≡ cnf (problem version ws)
+cnf-read-back version ws formed = Rattle.meaning.proofs.ReadBack.cnf-read-back (problem version ws) (proper-if-well-formed version ws formed)
+
+-- "At all limits, with every reset fixed and 63 U or R nodes over one atom, the CNF has 437,012 words."
+pub at-all-limits : WellFormed 1 limit-words × (length (cnf-words (problem 1 limit-words)) ≡ 437_012)
+at-all-limits = (Rattle.meaning.proofs.AllLimits.limits-formed, Rattle.meaning.proofs.AllLimits.limits-counted .2)
 
 -- "A run is accepted exactly if it is a witness by the bounded meaning of LTL": of the bytes, of words and bytes, and of the call.
 pub accepted-is-witness : (p : Problem) (bs : List ℕ) → (judge-bytes p bs ≡ granted 0) ↔ Witness p bs
@@ -155,6 +146,37 @@ pub accepted-prefix : (version : ℕ) (ws bs : List ℕ) {r : WitnessAnswer} →
     → ((t : ℕ) → t ≤ problem version ws .bound → path t .inputs ≡ inputs-at (problem version ws) bs t) → Holds (problem version ws) (formula (problem version ws)) path 0
 accepted-prefix = Rattle.checker.proofs.CallsMean.accepted-prefix
 
+-- The meaning on a prefix: "values past k are false", of every formula; "at i ≤ k F, G, U, R unfold as now-and-next".
+module _ (k : ℕ) (rows : ℕ → List Bool) where
+  pub past-k-false : (f : Formula) (i : ℕ) → k < i → prefix-value k rows f i ≡ false
+  past-k-false = Rattle.pairing.proofs.Prefixes.past-k-false k rows
+
+  module _ (f g : Formula) (i : ℕ) where
+    pub until-unfolds : i ≤ k → prefix-value k rows (until f g) i ≡ prefix-value k rows g i || (prefix-value k rows f i && prefix-value k rows (until f g) (suc i))
+    until-unfolds = Rattle.pairing.proofs.Prefixes.until-unfolds k rows f g i
+
+    pub release-unfolds : i ≤ k → prefix-value k rows (release f g) i ≡ prefix-value k rows g i && (prefix-value k rows f i || prefix-value k rows (release f g) (suc i))
+    release-unfolds = Rattle.pairing.proofs.Prefixes.release-unfolds k rows f g i
+
+    -- In words: U is g at a position from i to k with f before it; R is f at such a position with g up to it.
+    pub until-on-prefix : (prefix-value k rows (until f g) i ≡ true)
+        ↔ ((j : ℕ) × (i ≤ j) × (j ≤ k) × (prefix-value k rows g j ≡ true) × ((m : ℕ) → i ≤ m → m < j → prefix-value k rows f m ≡ true))
+    until-on-prefix = Rattle.pairing.proofs.Prefixes.until-on-prefix k rows f g i
+
+    pub release-on-prefix : (prefix-value k rows (release f g) i ≡ true)
+        ↔ ((j : ℕ) × (i ≤ j) × (j ≤ k) × (prefix-value k rows f j ≡ true) × ((m : ℕ) → i ≤ m → m ≤ j → prefix-value k rows g m ≡ true))
+    release-on-prefix = Rattle.pairing.proofs.Prefixes.release-on-prefix k rows f g i
+
+-- "So G is never true of a prefix": where the last node is G of another, no witness is a prefix.
+pub G-never-shown : (version : ℕ) (ws : List ℕ) → WellFormed version ws → (a : ℕ)
+    → node (problem version ws) (length (problem version ws .nodes) - 1) ≡ problems.release (problems.constant false) a
+    → (bs : List ℕ) → Witness (problem version ws) bs → shape bs ≡ prefix → ⊥
+G-never-shown version ws formed = Rattle.pairing.proofs.Prefixes.G-never-shown (problem version ws) (proper-if-well-formed version ws formed)
+
+-- "Document 000 reads a path without a loop only if no loop closes. Here a prefix may be shown of any run; whether a witness exists is the same."
+pub as-document-000 : (p : Problem) → ((bs : List ℕ) × Witness p bs) ↔ ((bs : List ℕ) × StrictWitness p bs)
+as-document-000 = Rattle.pairing.proofs.WithoutLoop.as-document-000
+
 -- "The thirteen marked cases": each has as many witnesses as the table says.
 pub thirteen : (c : Case) → List·Memᴰ c thirteen-cases → Counted (problem 1 (c .words)) (c .count)
 thirteen = Rattle.pairing.proofs.Thirteen.thirteen
@@ -162,12 +184,13 @@ thirteen = Rattle.pairing.proofs.Thirteen.thirteen
 -- ════════ Demand 3 ════════
 
 -- "The CNF can be satisfied exactly if a witness exists at a bound from 0 to k."
-pub satisfiable-at-or-below : (p : Problem) → Proper p → ((a : Assignment) × Model p a) ↔ WitnessAtOrBelow p
-satisfiable-at-or-below = Rattle.pairing.proofs.AtOrBelow.satisfiable-at-or-below
+pub satisfiable-at-or-below : (version : ℕ) (ws : List ℕ) → WellFormed version ws
+    → ((a : Assignment) × Model (problem version ws) a) ↔ WitnessAtOrBelow (problem version ws)
+satisfiable-at-or-below version ws formed = Rattle.pairing.proofs.AtOrBelow.satisfiable-at-or-below (problem version ws) (proper-if-well-formed version ws formed)
 
 -- "Witnesses at k and satisfying assignments pair off one to one."
-pub pairs-off : (p : Problem) → Proper p → PairsOff p
-pairs-off = Rattle.pairing.proofs.PairsOff.pairs-off
+pub pairs-off : (version : ℕ) (ws : List ℕ) → WellFormed version ws → PairsOff (problem version ws)
+pairs-off version ws formed = Rattle.pairing.proofs.PairsOff.pairs-off (problem version ws) (proper-if-well-formed version ws formed)
 
 -- An accepted step's clause follows from those that its hints can name.
 pub step-sound : (named : Lookup) (s : Step) → step-accepted named s ≡ true → (a : Assignment) → SatisfiesNamed a named → clause-true a (s .clause) ≡ true
@@ -196,13 +219,37 @@ accepted-refutation = Rattle.checker.proofs.CallsMean.accepted-refutati
 pub refutable : (v : ℕ) (cs : List Clause) → Within v cs → ((a : Assignment) → length a ≡ v → Satisfies a cs → ⊥) → Refutation v cs
 refutable = Rattle.clauses.proofs.Complete.refutable
 
-pub problem-refutable : (p : Problem) → Proper p → (WitnessAtOrBelow p → ⊥) → Refutation (variables p) (cnf p)
-problem-refutable = Rattle.pairing.proofs.AtOrBelow.problem-refutable
+pub problem-refutable : (version : ℕ) (ws : List ℕ) → WellFormed version ws → (WitnessAtOrBelow (problem version ws) → ⊥)
+    → Refutation (variables (problem version ws)) (cnf (problem version ws))
+problem-refutable version ws formed = Rattle.pairing.proofs.AtOrBelow.problem-refutable (problem version ws) (proper-if-well-formed version ws formed)
+
+-- And the running judges accept it as words, wherever they are lent the room that it needs: the judge for any CNF that 16 passes,
+pub refutable-judged : (v : ℕ) (cnf : List ℤ) → first-failing (cnf-checks v cnf) (granted 0) ≡ granted 0
+    → ((a : Assignment) → length a ≡ v → Satisfies a (clauses-of cnf) → ⊥)
+    → (a : AcceptedWords v cnf)
+    × ((numbers clauses : List ℕ) (r : RefutationAnswer) (numbers′ clauses′ : List ℕ)
+    → numbers-area v ≤ length numbers → clauses-area (clauses-of cnf) (steps-of (a .words)) ≤ length clauses
+    → Judged v cnf (a .words) numbers clauses r numbers′ clauses′ → r ≡ cnf-judge.Yes)
+refutable-judged = Rattle.refutation.proofs.Refutable.refutable-judged
+
+-- and the judge of a problem's refutation.
+pub refutable-call : (version : ℕ) (ws : List ℕ) → WellFormed version ws → (WitnessAtOrBelow (problem version ws) → ⊥)
+    → (a : AcceptedRefutation version ws)
+    × ((room : List ℤ) (numbers clauses : List ℕ) (r : Refuted) (room′ : List ℤ) (numbers′ clauses′ : List ℕ)
+    → length (cnf-words (problem version ws)) ≤ length room → numbers-area (variables (problem version ws)) ≤ length numbers
+    → clauses-area (cnf (problem version ws)) (steps-of (a .words)) ≤ length clauses
+    → JudgedAs version ws (a .words) room numbers clauses r room′ numbers′ clauses′ → r ≡ problem-judge.Yes)
+refutable-call = Rattle.checker.proofs.Refutable.refutable-call
+
+-- Its words are numbers of 32 bits with a sign where the variables are, and the clauses and the steps together.
+pub words-below : (v : ℕ) (cs : List Clause) (words : List ℤ) → WordsFit v cs words → v < 2 ^ 31 → length cs + length (steps-of words) < 2 ^ 31
+    → (i : ℕ) → i < length words → size (getD words i (pos 0)) < 2 ^ 31
+words-below = Rattle.clauses.proofs.WordSizes.words-below
 
 -- The judge for any CNF serves every problem's: its variables are within the limit, and 16 never answers.
-pub variables-fit : (p : Problem) → Proper p → variables p ≤ variables-limit
-variables-fit = Rattle.meaning.proofs.Ranges.variables-fit
+pub variables-fit : (version : ℕ) (ws : List ℕ) → WellFormed version ws → variables (problem version ws) ≤ variables-limit
+variables-fit version ws formed = Rattle.meaning.proofs.Ranges.variables-fit (problem version ws) (proper-if-well-formed version ws formed)
 
-pub never-16 : (p : Problem) → Proper p → {refutation : List ℤ} {numbers clauses : List ℕ} {r : RefutationAnswer} {numbers′ clauses′ : List ℕ}
-    → Judged (variables p) (cnf-words p) refutation numbers clauses r numbers′ clauses′ → (i : ℕ) → r ≡ cnf-judge.BadCnf i → ⊥
-never-16 = Rattle.checker.proofs.CallsMean.never-16
+pub never-16 : (version : ℕ) (ws : List ℕ) → WellFormed version ws → {refutation : List ℤ} {numbers clauses : List ℕ} {r : RefutationAnswer} {numbers′ clauses′ : List ℕ}
+    → Judged (variables (problem version ws)) (cnf-words (problem version ws)) refutation numbers clauses r numbers′ clauses′ → (i : ℕ) → r ≡ cnf-judge.BadCnf i → ⊥
+never-16 version ws formed = Rattle.checker.proofs.CallsMean.never-16 (problem version ws) (proper-if-well-formed version ws formed)

@@ -9,13 +9,12 @@ use lib.ListN.{length, replicate, getD}
 use Rattle.clauses.specs.Answers.{Answer}
 use Rattle.clauses.specs.Cases.{T-cnf, T-steps, T-other-steps}
 use Rattle.clauses.specs.Clauses.{variable-of}
-use Rattle.clauses.specs.Refutations.{judge-clauses, judge-steps, refutation-checks, area-checks, step-accepted, area-after}
+use Rattle.clauses.specs.Refutations.{refutation-checks, area-checks, step-accepted, area-after}
 use Rattle.meaning.specs.Limits.{inputs-limit, latches-limit, gates-limit, nodes-limit, bound-limit}
 use Rattle.meaning.specs.Problem.{header-words, problem-by, problem}
-use Rattle.meaning.specs.Check.{problem-checked}
 use Rattle.meaning.specs.Cnf.{cnf, cnf-words, variables}
 use Rattle.meaning.specs.Cases.{T-words}
-use Rattle.meaning.specs.Calls.{room-checked, before-steps, judge-refutation, room-after-judging, numbers-after, clauses-after}
+use Rattle.meaning.specs.Calls.{judge-refutation, room-after-judging, numbers-area-after, clauses-area-after}
 use Rattle.pairing.proofs.AtOrBelow.{problem-refuted}
 use Rattle.problem.specs.declared.Refusal.the-variants.{BadVersion}
 use Rattle.checker.specs.declared.Refuted.{Refuted}
@@ -97,12 +96,12 @@ T-longer = over T-longer-words T-steps 75 11 24
 
 -- The answer that document 01 lays down.
 unfoldable laid-down : Input → Answer
-unfolding header-words problem-by problem cnf cnf-words variables inputs-limit latches-limit gates-limit nodes-limit bound-limit problem-checked room-checked before-steps judge-refutation judge-clauses judge-steps refutation-checks area-checks step-accepted
+unfolding header-words problem-by problem cnf cnf-words variables inputs-limit latches-limit gates-limit nodes-limit bound-limit judge-refutation refutation-checks area-checks step-accepted
 laid-down x = judge-refutation (x .version) (x .words) (x .refutation) (length (x .room)) (length (x .numbers)) (length (x .clauses))
 
 module _ (x : Input) (r : Refuted) (e : refuted-answer r ≡ laid-down x) where
-  meets : Meets x r (room-after-judging (refuted-answer r) (x .version) (x .words) (x .room)) (numbers-after (refuted-answer r) (x .version) (x .words) (x .numbers))
-      (clauses-after (refuted-answer r) (x .version) (x .words) (x .refutation) (x .clauses))
+  meets : Meets x r (room-after-judging (refuted-answer r) (x .version) (x .words) (x .room)) (numbers-area-after (refuted-answer r) (x .version) (x .words) (x .numbers))
+      (clauses-area-after (refuted-answer r) (x .version) (x .words) (x .refutation) (x .clauses))
   unfolding laid-down
   meets = record {
     answered = e;
@@ -114,27 +113,27 @@ module _ (x : Input) (r : Refuted) (e : refuted-answer r ≡ laid-down x) where
   }
 
 pub yes-meets : Meets T Yes T-cnf (replicate 7 0) (replicate 13 0)
-unfolding laid-down header-words problem-by problem cnf cnf-words variables room-after-judging numbers-after clauses-after area-after
+unfolding laid-down header-words problem-by problem cnf cnf-words variables room-after-judging numbers-area-after clauses-area-after area-after
 yes-meets = meets T Yes refl
 
 pub refused-step-meets : Meets T-other (StepRefused 0) T-cnf (replicate 7 0) (replicate 13 0)
-unfolding laid-down header-words problem-by problem cnf cnf-words variables room-after-judging numbers-after clauses-after area-after
+unfolding laid-down header-words problem-by problem cnf cnf-words variables room-after-judging numbers-area-after clauses-area-after area-after
 refused-step-meets = meets T-other (StepRefused 0) refl
 
 pub bad-word-meets : Meets T-bad (BadRefutation 2) (replicate 37 (pos 9)) (replicate 7 9) (replicate 13 9)
-unfolding laid-down room-after-judging numbers-after clauses-after area-after
+unfolding laid-down room-after-judging numbers-area-after clauses-area-after area-after
 bad-word-meets = meets T-bad (BadRefutation 2) refl
 
 pub small-room-meets : Meets T-short (RoomTooSmall 37) (replicate 36 (pos 9)) (replicate 7 9) (replicate 13 9)
-unfolding laid-down room-after-judging numbers-after clauses-after area-after
+unfolding laid-down room-after-judging numbers-area-after clauses-area-after area-after
 small-room-meets = meets T-short (RoomTooSmall 37) refl
 
 pub small-area-meets : Meets T-few (AreaTooSmall 13) (replicate 37 (pos 9)) (replicate 7 9) (replicate 12 9)
-unfolding laid-down room-after-judging numbers-after clauses-after area-after
+unfolding laid-down room-after-judging numbers-area-after clauses-area-after area-after
 small-area-meets = meets T-few (AreaTooSmall 13) refl
 
 pub other-version-meets : Meets T-unknown (Problem BadVersion) [] [] []
-unfolding laid-down room-after-judging numbers-after clauses-after area-after
+unfolding laid-down room-after-judging numbers-area-after clauses-area-after area-after
 other-version-meets = meets T-unknown (Problem BadVersion) refl
 
 -- ════════ Answers ════════

@@ -3,4 +3,6 @@ pub mod ProblemRefutation
 pub mod RefutedUnique
 pub mod LazyProblem
 pub mod CallsMean
+pub mod Refutable
+pub mod OtherCalls
 pub mod Demands

@@ -11,25 +11,26 @@ use lib.Dec.{leb, eqb}
 use lib.ListN.{length, take, drop, length-append}
 use lib.Seq.{take-append-seam}
 use Rattle.clauses.specs.Limits.{variables-limit}
-use Rattle.clauses.specs.Lists.{all-of, numbered, joined, written}
+use Rattle.clauses.specs.Lists.{all-of, numbered, joined}
 use Rattle.clauses.specs.Answers.{Answer, Check, check, first-failing, granted, bad-cnf}
 use Rattle.clauses.specs.Clauses.{Clause, Within, variable-of, literal-within}
-use Rattle.clauses.specs.CnfWords.{ended-by-0, words-of, clauses-of, cnf-checks}
-use Rattle.clauses.specs.Refutations.{Part, literals, part-after, own-after, word-checks, steps-of, refutation-checks, area-checks, judge-steps, judge-clauses, judge-cnf, judged, area-after}
-use Rattle.clauses.proofs.Satisfaction.{both-true, first-true, second-true, all-of-append}
-use Rattle.clauses.proofs.Answers.{passing, first-failing-passed, numbered-passing, number-of, steps-judged}
-use Rattle.clauses.proofs.ReadBack.{clauses-back, words-ended, within-no-zeros}
+use Rattle.clauses.specs.CnfWords.{ended-by-0, words-of, cnf-checks}
+use Rattle.clauses.specs.Refutations.{steps-of, refutation-checks, area-checks, judge-steps, judge-clauses, judge-cnf, judged, area-after}
+use Rattle.clauses.proofs.Satisfaction.{both-true, first-true, second-true, all-of-append, all-of-numbered}
+use Rattle.clauses.proofs.Answers.{passing, first-failing-passed, first-failing-joined, numbered-passing, number-of, steps-judged, cnf-judged, clauses-judged}
+use Rattle.clauses.proofs.ReadBack.{words-ended}
 use Rattle.refutation.specs.declared.RefutationAnswer.{RefutationAnswer}
 use Rattle.refutation.specs.declared.RefutationAnswer.the-variants as cnf-answers
 use Rattle.refutation.specs.Promise.{answer-of, Judged}
 use Rattle.meaning.specs.Problem.{Problem, problem}
-use Rattle.meaning.specs.Check.{WellFormed, Proper}
+use Rattle.meaning.specs.Proper.{Proper}
 use Rattle.meaning.specs.Cnf.{cnf, cnf-words, variables}
-use Rattle.meaning.specs.Calls.{room-check, room-checked, before-steps, judge-refutation, room-after-judging, numbers-after, clauses-after}
+use Rattle.meaning.specs.Calls.{WellFormed, preparing-parts, judge-refutation, room-after-judging, numbers-area-after, clauses-area-after}
 use Rattle.meaning.proofs.ItemByItem.{Every, all-of-joined}
-use Rattle.meaning.proofs.Check.{first-failing-joined, checked-if-well-formed, well-formed-if-checked, proper-if-well-formed}
-use Rattle.meaning.proofs.Counts.{variable-count-is, word-count-is}
+use Rattle.meaning.proofs.Check.{checked-then, checked-if-well-formed, well-formed-if-checked, proper-if-well-formed}
+use Rattle.meaning.proofs.Calls.{refutation-by-steps}
 use Rattle.meaning.proofs.Ranges.{literals-within, variables-fit}
+use Rattle.meaning.proofs.ReadBack.{cnf-read-back}
 use Rattle.pairing.proofs.AtOrBelow.{problem-refuted}
 use Rattle.problem.specs.declared.Refusal.{Refusal}
 use Rattle.problem.specs.declared.Refusal.the-variants.{BadVersion, BadLength, OutsideLimits, BadReset, BadLiteral, BadNode}
@@ -38,7 +39,7 @@ use Rattle.problem.proofs.Formed.{passes-if-handed-on}
 use Rattle.encoder.specs.declared.Counts.{Counts}
 use Rattle.encoder.specs.declared.Prepared.{Prepared}
 use Rattle.encoder.specs.declared.Prepared.the-variants as prepared
-use Rattle.encoder.specs.Preparing.{PreparedAs}
+use Rattle.encoder.specs.Preparing.{prepared-then, PreparedAs}
 use Rattle.checker.specs.declared.Refuted.{Refuted}
 use Rattle.checker.specs.declared.Refuted.the-variants as answers
 use Rattle.checker.specs.Refutation.{refuted-answer, refuted-of, CnfHeld, JudgedFor, JudgedAs}
@@ -61,10 +62,6 @@ module _ (v : ℕ) where
       (both-true (clause-small c (first-true (all-of (literal-within v) c) _ e)) (words-small cs (second-true (all-of (literal-within v) c) _ e)))
 
 module _ (p : Problem) (proper : Proper p) where
-  cnf-back : clauses-of (cnf-words p) ≡ cnf p
-  unfolding cnf-words
-  cnf-back = clauses-back (cnf p) (within-no-zeros (variables p) (cnf p) (literals-within p proper))
-
   cnf-passes : all-of passing (cnf-checks (variables p) (cnf-words p)) ≡ true
   unfolding cnf-checks cnf-words
   cnf-passes =
@@ -75,8 +72,10 @@ module _ (p : Problem) (proper : Proper p) where
 
   pub judged-as-clauses : (refutation : List ℤ) (m n : ℕ)
       → judge-cnf (variables p) (cnf-words p) refutation m n ≡ judge-clauses (variables p) (cnf p) refutation m n
-  unfolding judge-cnf
-  judged-as-clauses refutation m n = first-failing-passed (cnf-checks (variables p) (cnf-words p)) _ cnf-passes ∙ rw cnf-back
+  judged-as-clauses refutation m n =
+      cnf-judged (variables p) (cnf-words p) refutation m n
+      ∙ first-failing-passed (cnf-checks (variables p) (cnf-words p)) _ cnf-passes
+      ∙ rw (cnf-read-back p proper)
 
 -- ════════ 16 never answers for a problem's CNF ════════
 
@@ -93,16 +92,12 @@ from-after (c ∷ cs) after o e = go (c .passes) (from-after cs after (second-tr
     go true later e′ = later e′
     go false later e′ = absurd (true≢false (sym (first-true (not-16 c) (all-of not-16 cs) o) ∙ rw e′))
 
-word-checks-not-16 : (v : ℕ) (p : Part) (own i : ℕ) (ws : List ℤ) → all-of not-16 (word-checks v p own i ws) ≡ true
-word-checks-not-16 v p own i [] = refl
-word-checks-not-16 v p own i (w ∷ ws) = word-checks-not-16 v (part-after p w) (own-after p own w) (suc i) ws
-
 pub clauses-not-16 : (v : ℕ) (cs : List Clause) (ws : List ℤ) (m n : ℕ) → judge-clauses v cs ws m n .number ≡ 16 → ⊥
-unfolding judge-clauses refutation-checks area-checks
+unfolding refutation-checks area-checks
 clauses-not-16 v cs ws m n e =
     let words : all-of not-16 (refutation-checks v (length cs) ws) ≡ true =
-    rw all-of-append (both-true (word-checks-not-16 v literals (suc (length cs)) 0 ws) refl) in
-    let later = from-after (refutation-checks v (length cs) ws) _ words e in
+    rw all-of-append (both-true (all-of-numbered not-16 0 ws _ (λ i w. refl)) refl) in
+    let later = from-after (refutation-checks v (length cs) ws) _ words (rw (clauses-judged v cs ws m n) at e) in
     let last = from-after (area-checks v cs (steps-of ws) m n) (judge-steps cs (steps-of ws)) refl later in
     true≢false (sym (steps-judged cs (steps-of ws)) ∙ rw last)
 
@@ -119,7 +114,7 @@ same-answer (cnf-answers.NotClosed n) e = refl
 
 module _ {p : Problem} {n : Counts} {room : List ℤ} (c : CnfHeld p n room) where
   variables-are : n .variables ≡ variables p
-  variables-are = rw (c .counted) (sym (variable-count-is p (c .proper .nodes-some)))
+  variables-are = ap (λ (m : Counts). m .variables) (c .counted)
 
   pub variables-few : n .variables ≤ variables-limit
   variables-few = rw variables-are (variables-fit p (c .proper))
@@ -134,7 +129,7 @@ module _ {p : Problem} {n : Counts} {room : List ℤ} (c : CnfHeld p n room) whe
       record {
         answered = same ∙ is;
         numbers-left = here .numbers-left ∙ rw same;
-        clauses-left = here .clauses-left ∙ rw (same, cnf-back p (c .proper));
+        clauses-left = here .clauses-left ∙ rw (same, cnf-read-back p (c .proper));
       }
 
 -- ════════ The outcomes ════════
@@ -154,10 +149,15 @@ module _ (version : ℕ) (ws : List ℕ) (refutation room : List ℤ) (numbers c
   abbrev steps-answer : Answer
   steps-answer = judge-steps (cnf (problem version ws)) (steps-of refutation)
 
+  -- What is checked before the steps, and then they.
+  answer-is : {r : Prepared} {room′ : List ℤ} → Prepares r room′
+      → prepared-then r steps-answer ≡ judge-refutation version ws refutation (length room) (length numbers) (length clauses)
+  answer-is a = a .answered steps-answer ∙ sym (refutation-by-steps version ws refutation (length room) (length numbers) (length clauses))
+
   -- A refusal before the CNF is written changes nothing.
   nothing-changed : (r : Refuted) → refuted-answer r ≡ judge-refutation version ws refutation (length room) (length numbers) (length clauses)
       → judged (refuted-answer r) ≡ false → JudgedAs version ws refutation room numbers clauses r room numbers clauses
-  unfolding room-after-judging numbers-after clauses-after area-after
+  unfolding room-after-judging numbers-area-after clauses-area-after area-after
   nothing-changed r is unchanged = record {
     answered = is;
     room-left = rw unchanged;
@@ -167,25 +167,24 @@ module _ (version : ℕ) (ws : List ℕ) (refutation room : List ℤ) (numbers c
   }
 
   pub problem-refused : {f : Refusal} {room′ : List ℤ} → Prepares (prepared.Problem f) room′ → JudgedAs version ws refutation room numbers clauses (answers.Problem f) room′ numbers clauses
-  unfolding judge-refutation
-  problem-refused {f} a = rw (a .room-after) (nothing-changed (answers.Problem f) (a .answered steps-answer) (refusal-unchanged f))
+  problem-refused {f} a = rw (a .room-after) (nothing-changed (answers.Problem f) (answer-is a) (refusal-unchanged f))
 
   pub room-refused : {n : ℕ} {room′ : List ℤ} → Prepares (prepared.RoomTooSmall n) room′ → JudgedAs version ws refutation room numbers clauses (answers.RoomTooSmall n) room′ numbers clauses
-  unfolding judge-refutation
-  room-refused {n} a = rw (a .room-after) (nothing-changed (answers.RoomTooSmall n) (a .answered steps-answer) refl)
+  room-refused {n} a = rw (a .room-after) (nothing-changed (answers.RoomTooSmall n) (answer-is a) refl)
 
   pub words-refused : {i : ℕ} {room′ : List ℤ} → Prepares (prepared.BadRefutation i) room′ → JudgedAs version ws refutation room numbers clauses (answers.BadRefutation i) room′ numbers clauses
-  unfolding judge-refutation
-  words-refused {i} a = rw (a .room-after) (nothing-changed (answers.BadRefutation i) (a .answered steps-answer) refl)
+  words-refused {i} a = rw (a .room-after) (nothing-changed (answers.BadRefutation i) (answer-is a) refl)
 
   pub area-refused : {n : ℕ} {room′ : List ℤ} → Prepares (prepared.AreaTooSmall n) room′ → JudgedAs version ws refutation room numbers clauses (answers.AreaTooSmall n) room′ numbers clauses
-  unfolding judge-refutation
-  area-refused {n} a = rw (a .room-after) (nothing-changed (answers.AreaTooSmall n) (a .answered steps-answer) refl)
+  area-refused {n} a = rw (a .room-after) (nothing-changed (answers.AreaTooSmall n) (answer-is a) refl)
 
   -- Where the CNF is written all that is checked before the steps is right.
   module _ {n : Counts} {room′ : List ℤ} (a : Prepares (prepared.Written n) room′) where
+    abbrev checks : List (List Check)
+    checks = preparing-parts (problem version ws) refutation (length room) (length numbers) (length clauses)
+
     formed : WellFormed version ws
-    formed = well-formed-if-checked version ws _ (number-of (sym (a .answered (granted 0))))
+    formed = well-formed-if-checked version ws _ (number-of (sym (a .answered (granted 0) ∙ checked-then version ws checks (granted 0))))
 
     proper : Proper (problem version ws)
     proper = proper-if-well-formed version ws formed
@@ -196,20 +195,17 @@ module _ (version : ℕ) (ws : List ℕ) (refutation room : List ℤ) (numbers c
     abbrev areas-checks : List Check
     areas-checks = area-checks (variables (problem version ws)) (cnf (problem version ws)) (steps-of refutation) (length numbers) (length clauses)
 
-    abbrev checks : List (List Check)
-    checks = (room-check (problem version ws) (length room) ∷ []) ∷ words-checks ∷ areas-checks ∷ []
-
     all-pass : Every (λ part. all-of passing part ≡ true) checks
-    unfolding before-steps room-checked
     all-pass =
         all-of-joined passing checks .0
-        (passes-if-handed-on (joined checks) (λ after. a .answered after ∙ checked-if-well-formed version ws _ formed ∙ first-failing-joined checks after))
+        (passes-if-handed-on (joined checks)
+        (λ after. a .answered after ∙ checked-then version ws checks after ∙ checked-if-well-formed version ws _ formed ∙ first-failing-joined checks after))
 
     words-fit : length (cnf-words (problem version ws)) ≤ length room
     words-fit = leb-true _ _ (first-true (leb (length (cnf-words (problem version ws))) (length room)) true (all-pass .0))
 
     words-are : n .words ≡ length (cnf-words (problem version ws))
-    words-are = rw (a .numbered) (sym (word-count-is (problem version ws)))
+    words-are = ap (λ (m : Counts). m .words) (a .numbered)
 
     pub cnf-held : CnfHeld (problem version ws) n room′
     cnf-held = record {
@@ -221,11 +217,12 @@ module _ (version : ℕ) (ws : List ℕ) (refutation room : List ℤ) (numbers c
 
     pub steps-answered : {r : Refuted} {numbers′ clauses′ : List ℕ} → JudgedFor (problem version ws) refutation numbers clauses r numbers′ clauses′
         → JudgedAs version ws refutation room numbers clauses r room′ numbers′ clauses′
-    unfolding judge-refutation judge-clauses room-after-judging numbers-after clauses-after
+    unfolding room-after-judging numbers-area-after clauses-area-after
     steps-answered {r} j =
         let by-steps : refuted-answer r ≡ steps-answer =
-        j .answered ∙ first-failing-passed words-checks _ (all-pass .1 .0) ∙ first-failing-passed areas-checks _ (all-pass .1 .1 .0) in
-        let is = by-steps ∙ a .answered steps-answer in
+        j .answered ∙ clauses-judged (variables (problem version ws)) (cnf (problem version ws)) refutation (length numbers) (length clauses)
+        ∙ first-failing-passed words-checks _ (all-pass .1 .0) ∙ first-failing-passed areas-checks _ (all-pass .1 .1 .0) in
+        let is = by-steps ∙ answer-is a in
         let yes : judged (refuted-answer r) ≡ true = rw by-steps (steps-judged (cnf (problem version ws)) (steps-of refutation)) in
         record {
           answered = is;

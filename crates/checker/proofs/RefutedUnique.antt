@@ -5,7 +5,7 @@ use Prim.Native.Nat.{ℕ}
 use lib.IntN.{ℤ}
 use lib.ListN.{getD}
 use Rattle.clauses.specs.Answers.{Answer}
-use Rattle.meaning.specs.Calls.{room-after-judging, numbers-after, clauses-after}
+use Rattle.meaning.specs.Calls.{room-after-judging, numbers-area-after, clauses-area-after}
 use Rattle.problem.specs.declared.Refusal.the-variants.{BadVersion, BadLength, OutsideLimits, BadReset, BadLiteral, BadNode}
 use Rattle.checker.specs.declared.Refuted.{Refuted}
 use Rattle.checker.specs.declared.Refuted.the-variants.{Yes, Problem, RoomTooSmall, BadRefutation, AreaTooSmall, StepRefused, NotClosed}
@@ -51,6 +51,9 @@ back-of (AreaTooSmall n) = refl
 back-of (StepRefused i) = refl
 back-of (NotClosed n) = refl
 
+pub same-answer : (r s : Refuted) → refuted-answer r ≡ refuted-answer s → r ≡ s
+same-answer r s e = sym (back-of r) ∙ ap refuted-back e ∙ back-of s
+
 module _ {version : ℕ} {ws : List ℕ} {refutation room : List ℤ} {numbers clauses : List ℕ}
     {r s : Refuted} {room₁ room₂ : List ℤ} {numbers₁ clauses₁ numbers₂ clauses₂ : List ℕ}
     (a : JudgedAs version ws refutation room numbers clauses r room₁ numbers₁ clauses₁)
@@ -60,8 +63,8 @@ module _ {version : ℕ} {ws : List ℕ} {refutation room : List ℤ} {numbers c
 
   pub refuted-unique : (r ≡ s) × (room₁ ≡ room₂) × (numbers₁ ≡ numbers₂) × (clauses₁ ≡ clauses₂)
   refuted-unique = (
-    sym (back-of r) ∙ ap refuted-back same ∙ back-of s,
+    same-answer r s same,
     a .room-left ∙ ap (λ (x : Answer). room-after-judging x version ws room) same ∙ sym (b .room-left),
-    a .numbers-left ∙ ap (λ (x : Answer). numbers-after x version ws numbers) same ∙ sym (b .numbers-left),
-    a .clauses-left ∙ ap (λ (x : Answer). clauses-after x version ws refutation clauses) same ∙ sym (b .clauses-left),
+    a .numbers-left ∙ ap (λ (x : Answer). numbers-area-after x version ws numbers) same ∙ sym (b .numbers-left),
+    a .clauses-left ∙ ap (λ (x : Answer). clauses-area-after x version ws refutation clauses) same ∙ sym (b .clauses-left),
   )

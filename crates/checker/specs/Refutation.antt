@@ -11,10 +11,10 @@ use Rattle.refutation.specs.declared.RefutationAnswer.the-variants as cnf-answe
 use Rattle.meaning.specs.Answers.{room-too-small}
 use Rattle.meaning.specs.Problem as problems
 use Rattle.meaning.specs.Problem.{problem}
-use Rattle.meaning.specs.Check.{Proper}
+use Rattle.meaning.specs.Proper.{Proper}
 use Rattle.meaning.specs.Witnesses.{Witness}
 use Rattle.meaning.specs.Cnf.{cnf, cnf-words, variables}
-use Rattle.meaning.specs.Calls.{judge-refutation, room-after-judging, numbers-after, clauses-after}
+use Rattle.meaning.specs.Calls.{judge-refutation, room-after-judging, numbers-area-after, clauses-area-after}
 use Rattle.pairing.specs.Bounds.{at-bound}
 use Rattle.problem.specs.Promise.{refusal-answer}
 use Rattle.encoder.specs.declared.Counts.{Counts}
@@ -36,8 +36,8 @@ refuted-answer (NotClosed n) = not-closed n
 pub record JudgedAs (version : ℕ) (ws : List ℕ) (refutation room : List ℤ) (numbers clauses : List ℕ) (r : Refuted) (room′ : List ℤ) (numbers′ clauses′ : List ℕ) : Type 0 where
   pub answered : refuted-answer r ≡ judge-refutation version ws refutation (length room) (length numbers) (length clauses)
   pub room-left : room′ ≡ room-after-judging (refuted-answer r) version ws room
-  pub numbers-left : numbers′ ≡ numbers-after (refuted-answer r) version ws numbers
-  pub clauses-left : clauses′ ≡ clauses-after (refuted-answer r) version ws refutation clauses
+  pub numbers-left : numbers′ ≡ numbers-area-after (refuted-answer r) version ws numbers
+  pub clauses-left : clauses′ ≡ clauses-area-after (refuted-answer r) version ws refutation clauses
   pub excludes : r ≡ Yes → (j : ℕ) → j ≤ problem version ws .bound → (bs : List ℕ) → Witness (at-bound (problem version ws) j) bs → ⊥
 
 -- ════════ Inside the judge ════════

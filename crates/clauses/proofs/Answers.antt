@@ -6,12 +6,12 @@ use Prim.Native.Nat.{ℕ, suc}
 use lib.IntN.{ℤ}
 use lib.Dec.{eqb}
 use lib.ListN.{length}
-use Rattle.clauses.specs.Lists.{all-of, numbered}
-use Rattle.clauses.specs.Answers.{Answer, Check, check, first-failing, granted, not-closed}
+use Rattle.clauses.specs.Lists.{all-of, numbered, joined}
+use Rattle.clauses.specs.Answers.{Answer, Check, check, first-failing, first-failing-part, granted}
 use Rattle.clauses.specs.Clauses.{Clause}
 use Rattle.clauses.specs.CnfWords.{clauses-of, cnf-checks}
-use Rattle.clauses.specs.Refutations.{Step, Part, literals, part-after, own-after, word-checks, refutation-checks, step-checks, area-checks, steps-of, last-is-empty, judge-steps, judge-clauses, judge-cnf, word-right, judged}
-use Rattle.clauses.proofs.Satisfaction.{both-true, first-true, second-true, all-of-append, all-of-first, all-of-second, all-of-numbered}
+use Rattle.clauses.specs.Refutations.{Step, refutation-checks, step-checks, area-checks, closing-checks, steps-of, last-is-empty, judge-steps, judge-clauses, judge-cnf, judged}
+use Rattle.clauses.proofs.Satisfaction.{both-true, first-true, second-true, all-of-append, all-of-numbered}
 
 -- ════════ Answers ════════
 
@@ -71,6 +71,17 @@ refused-anyway (c ∷ cs) a b {x} e n = go (c .passes) e (λ f. refused-anyway c
     go true f later = later f
     go false f later = f
 
+-- ════════ Checks in parts, any number of them ════════
+
+pub first-failing-joined : (ps : List (List Check)) (after : Answer) → first-failing-part ps after ≡ first-failing (joined ps) after
+first-failing-joined [] after = refl
+first-failing-joined (p ∷ ps) after = ap (first-failing p) (first-failing-joined ps after) ∙ sym (first-failing-append p (joined ps) after)
+
+pub parts-append : (ps qs : List (List Check)) (after : Answer)
+    → first-failing-part (ps ++ qs) after ≡ first-failing-part ps (first-failing-part qs after)
+parts-append [] qs after = refl
+parts-append (p ∷ ps) qs after = ap (first-failing p) (parts-append ps qs after)
+
 -- Numbered elements that are checked by one test pass where each passes it.
 pub numbered-passing : {A : Type 0} (t : A → Bool) (a : ℕ → Answer) (i : ℕ) (xs : List A)
     → all-of passing (numbered i xs (λ j x. check (t x) (a j))) ≡ all-of t xs
@@ -83,24 +94,9 @@ pub cnf-checks-refusing : (variables : ℕ) (ws : List ℤ) → all-of refusing 
 unfolding cnf-checks
 cnf-checks-refusing variables ws = rw all-of-append (both-true (all-of-numbered refusing 0 ws _ (λ i w. refl)) refl)
 
-pub word-checks-refusing : (variables : ℕ) (p : Part) (own i : ℕ) (ws : List ℤ) → all-of refusing (word-checks variables p own i ws) ≡ true
-word-checks-refusing variables p own i [] = refl
-word-checks-refusing variables p own i (w ∷ ws) = word-checks-refusing variables (part-after p w) (own-after p own w) (suc i) ws
-
--- What 11 asks of each word, without the places of its answers.
-abbrev pub words-right : ℕ → Part → ℕ → List ℤ → Bool
-words-right variables p own [] = true
-words-right variables p own (w ∷ ws) =
-    word-right variables p own w && words-right variables (part-after p w) (own-after p own w) ws
-
-pub words-right-is : (variables : ℕ) (p : Part) (own i : ℕ) (ws : List ℤ)
-    → all-of passing (word-checks variables p own i ws) ≡ words-right variables p own ws
-words-right-is variables p own i [] = refl
-words-right-is variables p own i (w ∷ ws) = rw (words-right-is variables (part-after p w) (own-after p own w) (suc i) ws)
-
 pub refutation-checks-refusing : (variables C : ℕ) (ws : List ℤ) → all-of refusing (refutation-checks variables C ws) ≡ true
 unfolding refutation-checks
-refutation-checks-refusing variables C ws = rw all-of-append (both-true (word-checks-refusing variables literals (suc C) 0 ws) refl)
+refutation-checks-refusing variables C ws = rw all-of-append (both-true (all-of-numbered refusing 0 ws _ (λ i w. refl)) refl)
 
 pub area-checks-refusing : (variables : ℕ) (cs : List Clause) (ss : List Step) (m n : ℕ) → all-of refusing (area-checks variables cs ss m n) ≡ true
 unfolding area-checks
@@ -109,16 +105,6 @@ area-checks-refusing variables cs ss m n = refl
 pub step-checks-refusing : (cs : List Clause) (i : ℕ) (ss : List Step) → all-of refusing (step-checks cs i ss) ≡ true
 step-checks-refusing cs i [] = refl
 step-checks-refusing cs i (s ∷ ss) = step-checks-refusing _ (suc i) ss
-
--- The checks of a refutation's steps: each step's, then the last clause's.
-abbrev closing-check : List Step → Check
-closing-check ss = check (last-is-empty ss) (not-closed (length ss))
-
-abbrev all-step-checks : List Clause → List Step → List Check
-all-step-checks cs ss = step-checks cs 0 ss ++ (closing-check ss ∷ [])
-
-all-step-checks-refusing : (cs : List Clause) (ss : List Step) → all-of refusing (all-step-checks cs ss) ≡ true
-all-step-checks-refusing cs ss = rw all-of-append (both-true (step-checks-refusing cs 0 ss) refl)
 
 -- ════════ Words that were counted ════════
 
@@ -158,7 +144,24 @@ step-checks-judged cs i (s ∷ ss) = step-checks-judged _ (suc i) ss
 
 pub steps-judged : (cs : List Clause) (ss : List Step) → judged (judge-steps cs ss) ≡ true
 unfolding judge-steps
-steps-judged cs ss = judged-first (step-checks cs 0 ss ++ _) (granted 0) (rw all-of-append (both-true (step-checks-judged cs 0 ss) refl)) refl
+steps-judged cs ss =
+    judged-first (step-checks cs 0 ss) _ (step-checks-judged cs 0 ss) (judged-first (closing-checks ss) (granted 0) refl refl)
+
+-- ════════ One judge by another ════════
+
+-- Past 16 it is the judge of clauses that are given.
+pub cnf-judged : (variables : ℕ) (cnf ws : List ℤ) (m n : ℕ)
+    → judge-cnf variables cnf ws m n ≡ first-failing (cnf-checks variables cnf) (judge-clauses variables (clauses-of cnf) ws m n)
+unfolding judge-cnf judge-clauses judge-steps
+cnf-judged variables cnf ws m n = refl
+
+-- Past 11 and 12 it is the judge of steps.
+pub clauses-judged : (variables : ℕ) (cs : List Clause) (ws : List ℤ) (m n : ℕ)
+    → judge-clauses variables cs ws m n
+    ≡ first-failing (refutation-checks variables (length cs) ws)
+    (first-failing (area-checks variables cs (steps-of ws) m n) (judge-steps cs (steps-of ws)))
+unfolding judge-clauses
+clauses-judged variables cs ws m n = refl
 
 -- ════════ What a judge's yes says ════════
 
@@ -167,18 +170,18 @@ pub steps-granted : (cs : List Clause) (ss : List Step) {p : ℕ} → judge-step
     → (all-of passing (step-checks cs 0 ss) ≡ true) × (last-is-empty ss ≡ true)
 unfolding judge-steps
 steps-granted cs ss e =
-    let all = all-pass-if-granted (all-step-checks cs ss) (granted 0) (all-step-checks-refusing cs ss) e in
-    let end = all-of-second passing (step-checks cs 0 ss) (closing-check ss ∷ []) all in
-    (all-of-first passing (step-checks cs 0 ss) (closing-check ss ∷ []) all, first-true (last-is-empty ss) true end)
+    let closed = after-if-granted (step-checks cs 0 ss) _ (step-checks-refusing cs 0 ss) e in
+    let end = all-pass-if-granted (closing-checks ss) (granted 0) refl closed in
+    (all-pass-if-granted (step-checks cs 0 ss) _ (step-checks-refusing cs 0 ss) e, first-true (last-is-empty ss) true end)
 
 pub clauses-granted : (variables : ℕ) (cs : List Clause) (ws : List ℤ) (m n : ℕ) {p : ℕ} → judge-clauses variables cs ws m n ≡ granted p
     → judge-steps cs (steps-of ws) ≡ granted p
-unfolding judge-clauses
 clauses-granted variables cs ws m n e =
     after-if-granted (area-checks variables cs (steps-of ws) m n) _ (area-checks-refusing variables cs (steps-of ws) m n)
-    (after-if-granted (refutation-checks variables (length cs) ws) _ (refutation-checks-refusing variables (length cs) ws) e)
+    (after-if-granted (refutation-checks variables (length cs) ws) _ (refutation-checks-refusing variables (length cs) ws)
+    (sym (clauses-judged variables cs ws m n) ∙ e))
 
 pub cnf-granted : (variables : ℕ) (cnf ws : List ℤ) (m n : ℕ) {p : ℕ} → judge-cnf variables cnf ws m n ≡ granted p
     → judge-clauses variables (clauses-of cnf) ws m n ≡ granted p
-unfolding judge-cnf
-cnf-granted variables cnf ws m n e = after-if-granted (cnf-checks variables cnf) _ (cnf-checks-refusing variables cnf) e
+cnf-granted variables cnf ws m n e =
+    after-if-granted (cnf-checks variables cnf) _ (cnf-checks-refusing variables cnf) (sym (cnf-judged variables cnf ws m n) ∙ e)

@@ -13,24 +13,25 @@ use Rattle.clauses.specs.Lists.{all-of}
 use Rattle.clauses.specs.Answers.{Answer, Check, first-failing, granted}
 use Rattle.clauses.specs.Clauses.{Clause, variable-of, literal-within}
 use Rattle.clauses.specs.CnfWords.{ended-by-0}
-use Rattle.clauses.specs.Refutations.{Step, step, words-of-steps, Part, literals, hints, word-checks, refutation-checks, step-accepted, clause-numbered, clauses-after, step-checks, last-is-empty, last-is-empty-after, judge-steps}
+use Rattle.clauses.specs.Refutations.{Step, step, words-of-steps, step-accepted, clause-numbered, with-step, step-checks, last-is-empty, last-is-empty-after, judge-steps}
 use Rattle.clauses.specs.Refutable.{Refutation}
 use Rattle.clauses.proofs.Satisfaction.{both-true, first-true, second-true, all-of-weaker}
 use Rattle.clauses.proofs.ReadBack.{not-0, StepsNoZeros, step-first, steps-back, steps-whole, within-not-0}
-use Rattle.clauses.proofs.Answers.{first-failing-append, first-failing-passed, words-right, words-right-is}
+use Rattle.clauses.proofs.Answers.{first-failing-append, first-failing-passed}
+use Rattle.clauses.proofs.WordByWord.{Part, literals, hints, word-checks, words-right, words-right-is, whole-is, word-by-word}
 
 -- ════════ Clauses after steps ════════
 
 abbrev pub clauses-after-all : List Clause → List Step → List Clause
 clauses-after-all cs [] = cs
-clauses-after-all cs (s ∷ ss) = clauses-after-all (clauses-after cs s) ss
+clauses-after-all cs (s ∷ ss) = clauses-after-all (with-step cs s) ss
 
 pub clauses-after-append : (cs : List Clause) (ss ts : List Step)
     → clauses-after-all cs (ss ++ ts) ≡ clauses-after-all (clauses-after-all cs ss) ts
 clauses-after-append cs [] ts = refl
-clauses-after-append cs (s ∷ ss) ts = clauses-after-append (clauses-after cs s) ss ts
+clauses-after-append cs (s ∷ ss) ts = clauses-after-append (with-step cs s) ss ts
 
-length-after : (cs : List Clause) (s : Step) → length (clauses-after cs s) ≡ suc (length cs)
+length-after : (cs : List Clause) (s : Step) → length (with-step cs s) ≡ suc (length cs)
 length-after cs s = length-append cs (s .clause ∷ []) ∙ add-one (length cs)
 
 -- The clauses of the first list stand in the second under the same numbers.
@@ -47,7 +48,7 @@ extends-twice d e = record {
   kept = λ n l. e .kept n (lt-of-lt-of-le l (d .longer)) ∙ d .kept n l;
 }
 
-extends-after : (cs : List Clause) (s : Step) → Extends cs (clauses-after cs s)
+extends-after : (cs : List Clause) (s : Step) → Extends cs (with-step cs s)
 extends-after cs s = record {
   longer = rw length-after (omega arith);
   kept = List·getD-append cs (s .clause ∷ []) [];
@@ -55,7 +56,7 @@ extends-after cs s = record {
 
 pub extends-after-all : (cs : List Clause) (ss : List Step) → Extends cs (clauses-after-all cs ss)
 extends-after-all cs [] = extends-self cs
-extends-after-all cs (s ∷ ss) = extends-twice (extends-after cs s) (extends-after-all (clauses-after cs s) ss)
+extends-after-all cs (s ∷ ss) = extends-twice (extends-after cs s) (extends-after-all (with-step cs s) ss)
 
 -- ════════ Right steps ════════
 
@@ -71,12 +72,12 @@ pub record RightStep (variables : ℕ) (cs : List Clause) (s : Step) : Type 0 wh
 
 abbrev pub RightSteps : ℕ → List Clause → List Step → Type 0
 RightSteps variables cs [] = Unit {0}
-RightSteps variables cs (s ∷ ss) = RightStep variables cs s × RightSteps variables (clauses-after cs s) ss
+RightSteps variables cs (s ∷ ss) = RightStep variables cs s × RightSteps variables (with-step cs s) ss
 
 pub right-append : (variables : ℕ) (cs : List Clause) (ss ts : List Step) → RightSteps variables cs ss
     → RightSteps variables (clauses-after-all cs ss) ts → RightSteps variables cs (ss ++ ts)
 right-append variables cs [] ts r q = q
-right-append variables cs (s ∷ ss) ts r q = (r .0, right-append variables (clauses-after cs s) ss ts (r .1) q)
+right-append variables cs (s ∷ ss) ts r q = (r .0, right-append variables (with-step cs s) ss ts (r .1) q)
 
 -- ════════ The judge accepts right steps ════════
 
@@ -88,11 +89,10 @@ pub last-empty : (ss : List Step) (hs : List ℕ) → last-is-empty (ss ++ (step
 last-empty [] hs = refl
 last-empty (s ∷ ss) hs = last-after s ss hs
 
-module _ (variables : ℕ) (rest : List Check) (after : Answer) where
-  step-checks-pass : (cs : List Clause) (i : ℕ) (ss : List Step) → RightSteps variables cs ss
-      → first-failing (step-checks cs i ss ++ rest) after ≡ first-failing rest after
+module _ (variables : ℕ) (after : Answer) where
+  step-checks-pass : (cs : List Clause) (i : ℕ) (ss : List Step) → RightSteps variables cs ss → first-failing (step-checks cs i ss) after ≡ after
   step-checks-pass cs i [] r = refl
-  step-checks-pass cs i (s ∷ ss) r = rw (r .0 .accepted) (step-checks-pass (clauses-after cs s) (suc i) ss (r .1))
+  step-checks-pass cs i (s ∷ ss) r = rw (r .0 .accepted) (step-checks-pass (with-step cs s) (suc i) ss (r .1))
 
 -- ════════ The words of right steps are right ════════
 
@@ -141,11 +141,11 @@ module _ (variables : ℕ) where
         hints-right (length cs) (s .hints) (words-of-steps ss) (r .0 .earlier),
         ← length-after cs s,
       )
-      (steps-right (clauses-after cs s) ss (r .1))
+      (steps-right (with-step cs s) ss (r .1))
 
   right-no-zeros : (cs : List Clause) (ss : List Step) → RightSteps variables cs ss → StepsNoZeros ss
   right-no-zeros cs [] r = refl
-  right-no-zeros cs (s ∷ ss) r = both-true (both-true no-0 at-least-1) (right-no-zeros (clauses-after cs s) ss (r .1))
+  right-no-zeros cs (s ∷ ss) r = both-true (both-true no-0 at-least-1) (right-no-zeros (with-step cs s) ss (r .1))
     where
       no-0 : all-of not-0 (s .clause) ≡ true
       no-0 = all-of-weaker (literal-within variables) not-0 (within-not-0 variables) (s .clause) (r .0 .within)
@@ -157,12 +157,13 @@ module _ (variables : ℕ) where
   -- ════════ Right steps that end in the empty clause ════════
 
   pub refutation-by : (cs : List Clause) (ss : List Step) → RightSteps variables cs ss → last-is-empty ss ≡ true → Refutation variables cs
-  unfolding judge-steps refutation-checks
+  unfolding judge-steps
   refutation-by cs ss r e = record {
     steps = ss;
-    accepted = step-checks-pass variables _ (granted 0) cs 0 ss r ∙ rw e;
+    accepted = step-checks-pass variables _ cs 0 ss r ∙ rw e;
     read-back = steps-back ss (right-no-zeros cs ss r);
     words-right =
-        word-checks-pass literals (suc (length cs)) 0 (words-of-steps ss) _ (granted 0) (steps-right cs ss r)
-        ∙ rw (steps-whole ss (right-no-zeros cs ss r));
+        rw (word-by-word)
+        (word-checks-pass literals (suc (length cs)) 0 (words-of-steps ss) _ (granted 0) (steps-right cs ss r)
+        ∙ rw (← whole-is (words-of-steps ss), steps-whole ss (right-no-zeros cs ss r)));
   }

@@ -3,9 +3,13 @@ pub mod Satisfaction
 pub mod Signs
 pub mod PutAt
 pub mod Answers
+pub mod WordByWord
 pub mod Lookups
 pub mod Sound
 pub mod ReadBack
 pub mod Derivations
 pub mod Splits
 pub mod Complete
+pub mod CnfPassed
+pub mod WordSizes
+pub mod RefutableWords

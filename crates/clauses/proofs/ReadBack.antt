@@ -11,10 +11,11 @@ use lib.IntN.{ℤ, pos, negsuc}
 use lib.Dec.{leb}
 use lib.ListN.{length}
 use Rattle.clauses.specs.Lists.{all-of}
-use Rattle.clauses.specs.Clauses.{Clause, variable-of, literal-within, Within}
+use Rattle.clauses.specs.Clauses.{Clause, size, literal-within, Within}
 use Rattle.clauses.specs.CnfWords.{ended-by-0, words-of, in-front, clauses-of, is-0, ended-after, ended}
-use Rattle.clauses.specs.Refutations.{Step, paired, steps-of, step-words, words-of-steps, Part, literals, hints, other, part-at-end, whole}
+use Rattle.clauses.specs.Refutations.{Step, paired, steps-of, step-words, words-of-steps, whole}
 use Rattle.clauses.proofs.Satisfaction.{first-true, second-true, not-both, all-of-weaker}
+use Rattle.clauses.proofs.WordByWord.{Part, literals, hints, other, part-at-end, whole-is}
 
 -- ════════ Words that are no 0 ════════
 
@@ -120,7 +121,7 @@ hints-no-zeros [] e = refl
 hints-no-zeros (zero ∷ hs) e = absurd (false≢true e)
 hints-no-zeros (suc h ∷ hs) e = hints-no-zeros hs (second-true (leb 1 (suc h)) (all-of (leb 1) hs) e)
 
-hints-back : (hs : List ℕ) → map variable-of (map pos hs) ≡ hs
+hints-back : (hs : List ℕ) → map size (map pos hs) ≡ hs
 hints-back [] = refl
 hints-back (h ∷ hs) = ap (λ (ks : List ℕ). h ∷ ks) (hints-back hs)
 
@@ -184,7 +185,7 @@ steps-part (s ∷ ss) e =
     ∙ steps-part ss (second-true (step-no-zeros s) (all-of step-no-zeros ss) e)
 
 pub steps-whole : (ss : List Step) → StepsNoZeros ss → whole (words-of-steps ss) ≡ true
-steps-whole ss e = rw (steps-ended ss, steps-part ss e)
+steps-whole ss e = rw (whole-is, steps-ended ss, steps-part ss e)
 
 -- ════════ No more clauses or steps than words ════════
 

@@ -11,7 +11,7 @@ use Rattle.clauses.specs.Lists.{all-of, empty}
 use Rattle.clauses.specs.Answers.{granted}
 use Rattle.clauses.specs.Clauses.{Clause, Assignment, Satisfies, literal-true, clause-true, negated, same, among}
 use Rattle.clauses.specs.CnfWords.{clauses-of, is-0}
-use Rattle.clauses.specs.Refutations.{Step, Lookup, SatisfiesNamed, Outcome, conflict, unit, neither, both-signs, not-false, outcome-of, outcome, outcome-if-any, clause-numbered, hint-outcome, hints-conflict, step-accepted, clauses-after, step-checks, last-is-empty, judge-steps, judge-clauses, judge-cnf, steps-of}
+use Rattle.clauses.specs.Refutations.{Step, Lookup, SatisfiesNamed, Outcome, conflict, unit, neither, both-signs, not-false, outcome-of, outcome, outcome-if-any, clause-numbered, hint-outcome, hints-conflict, step-accepted, with-step, step-checks, last-is-empty, judge-steps, judge-clauses, judge-cnf, steps-of}
 use Rattle.clauses.proofs.Satisfaction.{both-true, first-true, second-true, or-second, not-both, false-if-not-true, all-of-member, all-of-if-member, all-of-map, those-member, eq-if-same, member-if-among, not-true-both-ways, satisfies-append, true-literal, false-literal}
 use Rattle.clauses.proofs.Lookups.{numbered-satisfied}
 use Rattle.clauses.proofs.Answers.{passing, steps-granted, clauses-granted, cnf-granted}
@@ -105,7 +105,7 @@ next-sound cs s e a sat = step-sound (clause-numbered cs) s e a (numbered-satisf
 
 -- The clauses after an accepted step are satisfied too.
 pub step-keeps : (cs : List Clause) (s : Step) → step-accepted (clause-numbered cs) s ≡ true → (a : Assignment) → Satisfies a cs
-    → Satisfies a (clauses-after cs s)
+    → Satisfies a (with-step cs s)
 step-keeps cs s e a sat = satisfies-append a cs (s .clause ∷ []) sat (both-true (next-sound cs s e a sat) refl)
 
 -- ════════ Refutations ════════
@@ -120,7 +120,7 @@ pub accepted-refute : (cs : List Clause) (i : ℕ) (ss : List Step) → all-of p
 accepted-refute cs i [] e l a sat = false≢true l
 accepted-refute cs i (s ∷ []) e l a sat = empty-false a (s .clause) l (next-sound cs s (first-true (step-accepted (clause-numbered cs) s) true e) a sat)
 accepted-refute cs i (s ∷ t ∷ ss) e l a sat =
-    accepted-refute (clauses-after cs s) (suc i) (t ∷ ss) (second-true (step-accepted (clause-numbered cs) s) _ e) l a
+    accepted-refute (with-step cs s) (suc i) (t ∷ ss) (second-true (step-accepted (clause-numbered cs) s) _ e) l a
     (step-keeps cs s (first-true (step-accepted (clause-numbered cs) s) _ e) a sat)
 
 -- Clauses whose refutation is accepted have no assignment that satisfies them.

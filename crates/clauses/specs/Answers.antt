@@ -47,3 +47,8 @@ check b a = record { passes = b; otherwise = a }
 abbrev pub first-failing : List Check → Answer → Answer
 first-failing [] after = after
 first-failing (c ∷ cs) after = cond (c .passes) (first-failing cs after) (c .otherwise)
+
+-- The same of checks in parts, one part after another: a call's order of answers is such a list.
+abbrev pub first-failing-part : List (List Check) → Answer → Answer
+first-failing-part [] after = after
+first-failing-part (p ∷ ps) after = first-failing p (first-failing-part ps after)

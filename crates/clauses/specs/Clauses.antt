@@ -19,10 +19,18 @@ Assignment = List Bool
 abbrev pub negated : ℤ → ℤ
 negated = negℤ
 
+-- The word -n.
+abbrev pub minus : ℕ → ℤ
+minus n = negated (pos n)
+
+-- The size of a word, without its sign.
+abbrev pub size : ℤ → ℕ
+size (pos n) = n
+size (negsuc n) = suc n
+
 -- The number of a literal's variable.
 abbrev pub variable-of : ℤ → ℕ
-variable-of (pos n) = n
-variable-of (negsuc n) = suc n
+variable-of w = size w
 
 -- The word 0 ends a clause and is no literal; as one it would be false.
 abbrev pub literal-true : Assignment → ℤ → Bool

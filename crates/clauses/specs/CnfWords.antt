@@ -8,7 +8,7 @@ use lib.ListN.{length}
 use Rattle.clauses.specs.Lists.{each, numbered}
 use Rattle.clauses.specs.Limits.{variables-limit}
 use Rattle.clauses.specs.Answers.{Check, check, bad-cnf}
-use Rattle.clauses.specs.Clauses.{Clause, variable-of}
+use Rattle.clauses.specs.Clauses.{Clause, size}
 
 -- The words of clauses: each clause's literals, then 0.
 abbrev pub ended-by-0 : Clause → List ℤ
@@ -47,5 +47,5 @@ ended (w ∷ ws) = ended-after w ws
 unfoldable pub cnf-checks : ℕ → List ℤ → List Check
 cnf-checks variables ws =
     check (leb variables variables-limit) (bad-cnf 0)
-    ∷ numbered 0 ws (λ i w. check (leb (variable-of w) variables) (bad-cnf i))
+    ∷ numbered 0 ws (λ i w. check (leb (size w) variables) (bad-cnf i))
     ++ (check (ended ws) (bad-cnf (length ws)) ∷ [])

@@ -3,13 +3,13 @@ use mathlib.Core.Bool.{Bool, true, false, not, cond, _&&_, _||_}
 use mathlib.Core.List.{List, [], _∷_, _++_, map}
 use mathlib.Core.Option.{Option, none, some}
 use mathlib.Core.Path.{_≡_}
-use Prim.Native.Nat.{ℕ, zero, suc, _+_}
+use Prim.Native.Nat.{ℕ, zero, suc, _+_, _/_, _%_}
 use lib.IntN.{ℤ, pos, negsuc}
 use lib.Dec.{leb, ltb, eqb}
-use lib.ListN.{length, getElem?, replicate}
-use Rattle.clauses.specs.Lists.{each, some-of, all-of, those, empty, written}
-use Rattle.clauses.specs.Answers.{Answer, Check, check, first-failing, granted, bad-refutation, area-too-small, step-refused, not-closed}
-use Rattle.clauses.specs.Clauses.{Clause, Assignment, clause-true, negated, variable-of, same, among}
+use lib.ListN.{length, getElem?, replicate, take}
+use Rattle.clauses.specs.Lists.{each, numbered, some-of, all-of, those, empty, written}
+use Rattle.clauses.specs.Answers.{Answer, Check, check, first-failing-part, granted, bad-refutation, area-too-small, step-refused, not-closed}
+use Rattle.clauses.specs.Clauses.{Clause, Assignment, clause-true, negated, size, same, among}
 use Rattle.clauses.specs.CnfWords.{ended-by-0, clauses-of, ended, is-0, cnf-checks}
 
 -- ════════ Steps ════════
@@ -26,7 +26,7 @@ step c hs = record { clause = c; hints = hs }
 abbrev pub paired : List (List ℤ) → List Step
 paired [] = []
 paired (c ∷ []) = []
-paired (c ∷ hs ∷ rest) = step c (map variable-of hs) ∷ paired rest
+paired (c ∷ hs ∷ rest) = step c (map size hs) ∷ paired rest
 
 abbrev pub steps-of : List ℤ → List Step
 steps-of ws = paired (clauses-of ws)
@@ -40,26 +40,12 @@ words-of-steps ss = each ss step-words
 
 -- ════════ 11: the words ════════
 
--- The part of a step in which a word stands.
-pub data Part : Type 0 where
-  literals hints : Part
+-- The zeros among words. A step has two, one past its clause and one past its hints.
+abbrev pub zeros : List ℤ → ℕ
+zeros ws = length (those is-0 ws)
 
-abbrev pub is-literals : Part → Bool
-is-literals literals = true
-is-literals hints = false
-
-abbrev pub other : Part → Part
-other literals = hints
-other hints = literals
-
--- A 0 ends the part.
-abbrev pub part-after : Part → ℤ → Part
-part-after p w = cond (is-0 w) (other p) p
-
--- "CNF clauses are numbered from 1, steps follow on": the number of the step in which the next word stands.
-abbrev pub own-after : Part → ℕ → ℤ → ℕ
-own-after literals own w = own
-own-after hints own w = cond (is-0 w) (suc own) own
+abbrev pub even : ℕ → Bool
+even n = eqb (n % 2) 0
 
 -- A hint is an earlier clause: at least 1, and below the step's own number.
 abbrev pub earlier : ℕ → ℤ → Bool
@@ -67,29 +53,20 @@ earlier own (pos zero) = false
 earlier own (pos (suc h)) = ltb (suc h) own
 earlier own (negsuc h) = false
 
--- A literal is at most V in size; a hint is an earlier clause.
-abbrev pub word-right : ℕ → Part → ℕ → ℤ → Bool
-word-right variables literals own w = leb (variable-of w) variables
-word-right variables hints own w = is-0 w || earlier own w
+-- A word with so many zeros before it. Even: a literal of a step's clause, or the 0 past it; at most V in size. Odd: a hint, or the 0
+-- past the hints; "CNF clauses are numbered from 1, steps follow on", so the step's own number is C, the steps before it, and one.
+abbrev pub word-right : ℕ → ℕ → ℕ → ℤ → Bool
+word-right variables C before w = cond (even before) (leb (size w) variables) (is-0 w || earlier (C + before / 2 + 1) w)
 
-abbrev pub word-checks : ℕ → Part → ℕ → ℕ → List ℤ → List Check
-word-checks variables p own i [] = []
-word-checks variables p own i (w ∷ ws) =
-    check (word-right variables p own w) (bad-refutation i)
-    ∷ word-checks variables (part-after p w) (own-after p own w) (suc i) ws
-
--- The part in which a word after all of these would stand.
-abbrev pub part-at-end : Part → List ℤ → Part
-part-at-end p [] = p
-part-at-end p (w ∷ ws) = part-at-end (part-after p w) ws
-
--- Not cut short: no step is begun and not ended.
+-- Not cut short: there is no word, or the last one is 0; and the zeros are even, two for each step.
 abbrev pub whole : List ℤ → Bool
-whole ws = ended ws && is-literals (part-at-end literals ws)
+whole ws = ended ws && even (zeros ws)
 
 -- 11: the first bad word, then cut short (the length), for a CNF of V variables and C clauses.
 unfoldable pub refutation-checks : ℕ → ℕ → List ℤ → List Check
-refutation-checks variables C ws = word-checks variables literals (suc C) 0 ws ++ (check (whole ws) (bad-refutation (length ws)) ∷ [])
+refutation-checks variables C ws =
+    numbered 0 ws (λ i w. check (word-right variables C (zeros (take i ws)) w) (bad-refutation i))
+    ++ (check (whole ws) (bad-refutation (length ws)) ∷ [])
 
 -- ════════ The rule for one step ════════
 
@@ -151,14 +128,14 @@ abbrev pub clause-numbered : List Clause → Lookup
 clause-numbered cs zero = none
 clause-numbered cs (suc n) = getElem? cs n
 
--- An accepted step's clause follows the clauses so far.
-abbrev pub clauses-after : List Clause → Step → List Clause
-clauses-after cs s = cs ++ (s .clause ∷ [])
+-- The clauses so far, then the step's.
+abbrev pub with-step : List Clause → Step → List Clause
+with-step cs s = cs ++ (s .clause ∷ [])
 
 -- 13: the first step that is refused.
 abbrev pub step-checks : List Clause → ℕ → List Step → List Check
 step-checks cs i [] = []
-step-checks cs i (s ∷ ss) = check (step-accepted (clause-numbered cs) s) (step-refused i) ∷ step-checks (clauses-after cs s) (suc i) ss
+step-checks cs i (s ∷ ss) = check (step-accepted (clause-numbered cs) s) (step-refused i) ∷ step-checks (with-step cs s) (suc i) ss
 
 abbrev pub last-is-empty-after : Step → List Step → Bool
 last-is-empty-after s [] = empty (s .clause)
@@ -169,10 +146,13 @@ abbrev pub last-is-empty : List Step → Bool
 last-is-empty [] = false
 last-is-empty (s ∷ ss) = last-is-empty-after s ss
 
--- "Accepted: every step passes and the last clause is empty." 13, then 14 (the number of steps).
+-- 14: the last clause is not empty (the number of steps).
+abbrev pub closing-checks : List Step → List Check
+closing-checks ss = check (last-is-empty ss) (not-closed (length ss)) ∷ []
+
+-- "Accepted: every step passes and the last clause is empty."
 unfoldable pub judge-steps : List Clause → List Step → Answer
-judge-steps cs ss =
-    first-failing (step-checks cs 0 ss ++ (check (last-is-empty ss) (not-closed (length ss)) ∷ [])) (granted 0)
+judge-steps cs ss = first-failing-part (step-checks cs 0 ss ∷ closing-checks ss ∷ []) (granted 0)
 
 -- "Work areas: one word for each number 0..V, and one for each clause and step."
 abbrev pub numbers-area : ℕ → ℕ
@@ -188,16 +168,26 @@ area-checks variables cs ss by-numbers by-clauses =
     ∷ check (leb (clauses-area cs ss) by-clauses) (area-too-small (clauses-area cs ss))
     ∷ []
 
--- 11, 12, 13, 14 for clauses that are given; the last two numbers are the lengths of the work areas.
-unfoldable pub judge-clauses : ℕ → List Clause → List ℤ → ℕ → ℕ → Answer
-judge-clauses variables cs ws by-numbers by-clauses =
-    first-failing (refutation-checks variables (length cs) ws)
-    (first-failing (area-checks variables cs (steps-of ws) by-numbers by-clauses) (judge-steps cs (steps-of ws)))
-
--- The judge for a bare CNF: 16 first.
+-- "For a bare CNF, 16 comes first", then 11, 12, 13, 14; the last two numbers are the lengths of the work areas.
 unfoldable pub judge-cnf : ℕ → List ℤ → List ℤ → ℕ → ℕ → Answer
 judge-cnf variables cnf ws by-numbers by-clauses =
-    first-failing (cnf-checks variables cnf) (judge-clauses variables (clauses-of cnf) ws by-numbers by-clauses)
+    let cs = clauses-of cnf in
+    let ss = steps-of ws in
+    first-failing-part
+    (cnf-checks variables cnf
+    ∷ refutation-checks variables (length cs) ws
+    ∷ area-checks variables cs ss by-numbers by-clauses
+    ∷ step-checks cs 0 ss
+    ∷ closing-checks ss
+    ∷ [])
+    (granted 0)
+
+-- 11, 12, 13, 14 for clauses that are given: the part of the judge past 16, which inner contracts cite.
+unfoldable pub judge-clauses : ℕ → List Clause → List ℤ → ℕ → ℕ → Answer
+judge-clauses variables cs ws by-numbers by-clauses =
+    first-failing-part
+    (refutation-checks variables (length cs) ws ∷ area-checks variables cs (steps-of ws) by-numbers by-clauses ∷ [])
+    (judge-steps cs (steps-of ws))
 
 -- ════════ The work areas after the call ════════
 

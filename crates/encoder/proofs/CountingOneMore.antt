@@ -8,7 +8,7 @@ use lib.ListN.{length, length-append}
 use Rattle.clauses.specs.Lists.{those}
 use Rattle.clauses.proofs.Satisfaction.{those-append}
 use Rattle.meaning.specs.Problem.{Node}
-use Rattle.meaning.specs.Counts.{has-equal-form, has-or-form, has-until-form}
+use Rattle.meaning.proofs.ClosedForms.{has-equal-form, has-or-form, has-until-form}
 use Rattle.encoder.specs.declared.count.Forms.{Forms}
 use Rattle.encoder.specs.Counting.{FormsOf, FewForms, Added}
 

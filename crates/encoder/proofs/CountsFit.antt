@@ -8,9 +8,10 @@ use lib.Dec.{ltb}
 use lib.ListN.{length}
 use Rattle.meaning.specs.Limits.{inputs-limit, latches-limit, gates-limit, nodes-limit, bound-limit}
 use Rattle.meaning.specs.Problem.{Problem, Latch, W}
-use Rattle.meaning.specs.Check.{Proper}
-use Rattle.meaning.specs.Counts.{fixed-resets, Tally, tally, node-count, pairs, word-count}
-use Rattle.meaning.proofs.Counts.{forms-are-all}
+use Rattle.meaning.specs.Proper.{Proper}
+use Rattle.meaning.specs.Cnf.{cnf-words}
+use Rattle.meaning.proofs.ClosedForms.{fixed-resets, Tally, tally, node-count, pairs, word-count}
+use Rattle.meaning.proofs.Counts.{forms-are-all, word-count-is}
 use Rattle.encoder.specs.declared.count.Forms.{Forms}
 use Rattle.encoder.specs.declared.count.Tally as counted
 use Rattle.encoder.specs.declared.count.Weights.{Weights}
@@ -153,10 +154,10 @@ tallied-if {p} proper {t} {f} positions width latches fixed gates of equals ors 
     let is : tally-of t ≡ tally p = rw (positions, width, latches, fixed, gates, equals, ors, untils, of .equals-are, of .ors-are, of .untils-are) in
     record { is = is; few = rw is (few-if-proper p proper) }
 
-pub words-small : (p : Problem) → Proper p → word-count p < 2 ^ 32
+pub words-small : (p : Problem) → Proper p → length (cnf-words p) < 2 ^ 32
 unfolding word-count
 words-small p proper =
     let few = few-if-proper p proper in
     let weights : Weights = record { one = 2; two = 3; three = 4; long = suc (suc (tally p .positions)) } in
     let light : Light weights = omega (arith, few .positions-few) in
-    omega (arith, small-products few light)
+    omega (arith, word-count-is p, small-products few light)

@@ -13,9 +13,8 @@ use Rattle.clauses.specs.Clauses.{negated}
 use Rattle.clauses.specs.Answers.{Answer}
 use Rattle.meaning.specs.Limits.{inputs-limit, latches-limit, gates-limit, nodes-limit, bound-limit}
 use Rattle.meaning.specs.Problem.{header-words, problem-by, problem}
-use Rattle.meaning.specs.Check.{problem-checked}
 use Rattle.meaning.specs.Cnf.{true-literal, false-literal, cnf, cnf-words}
-use Rattle.meaning.specs.Calls.{room-checked, write-cnf, room-after-writing}
+use Rattle.meaning.specs.Calls.{write-cnf, room-after-writing}
 use Rattle.meaning.specs.Cases.{T-words}
 use Rattle.problem.specs.declared.Refusal.the-variants.{BadVersion, BadLiteral}
 use Rattle.encoder.specs.declared.Encoded.{Encoded}
@@ -113,7 +112,7 @@ G-ended-with y =
 
 -- The answer that document 01 lays down.
 unfoldable laid-down : Input → Answer
-unfolding header-words problem-by problem cnf cnf-words inputs-limit latches-limit gates-limit nodes-limit bound-limit problem-checked room-checked write-cnf
+unfolding header-words problem-by problem cnf cnf-words inputs-limit latches-limit gates-limit nodes-limit bound-limit write-cnf
 laid-down x = write-cnf (x .version) (x .words) (length (x .room))
 
 meets : (x : Input) (r : Encoded) → answer-of r ≡ laid-down x → Meets x r (room-after-writing (answer-of r) (x .version) (x .words) (x .room))

@@ -1,30 +1,20 @@
 -- Counters of the CNF that are lazy or wrong do not meet the promise, and neither counters nor writers do that hold the number of words in
 -- 16 bits: for each an input, what the promise gives there, and what they give. Assumes nothing.
-use mathlib.Core.Path.{_≡_, refl, sym, _∙_, ap}
-use mathlib.Core.Bool.{true}
-use mathlib.Core.List.{List, [], _∷_, _++_}
-use Prim.Native.Nat.{ℕ, _+_, _*_, _-_, _/_, _%_, _^_, _≤_, _<_}
-use native.Mathlib.Nat.{add-sub-of-le}
+use mathlib.Core.Path.{_≡_, refl, sym, _∙_}
+use mathlib.Core.List.{List}
+use Prim.Native.Nat.{ℕ, _%_, _^_, _<_}
 use native.Mathlib.Omega.{arith}
-use borrow.Author.Tests.{le-leb}
 use lib.IntN.{ℤ, pos}
-use lib.ListN.{length, replicate, length-replicate, getD-replicate, List·getD-append}
-use lib.Seq.{getD-drop}
-use Rattle.clauses.specs.Lists.{numbers, each, all-of}
+use lib.ListN.{length, replicate, length-replicate}
 use Rattle.clauses.specs.Answers.{Answer}
-use Rattle.clauses.proofs.Satisfaction.{both-true}
-use Rattle.clauses.proofs.Answers.{passing}
 use Rattle.meaning.specs.Limits.{inputs-limit, latches-limit, gates-limit, nodes-limit, bound-limit}
-use Rattle.meaning.specs.Problem.{Outline, header-words, outline, problem-by, problem, word, latch-place, gate-place, node-place}
-use Rattle.meaning.specs.Check.{largest-literal, gate-limit, largest-reset, latch-checks, gate-checks, node-checks, check-parts, problem-checked, check-problem, WellFormed}
-use Rattle.meaning.specs.Cnf.{cnf-words}
-use Rattle.meaning.specs.Counts.{variable-count, clause-count, word-count}
-use Rattle.meaning.specs.Calls.{write-cnf, room-after-writing}
-use Rattle.meaning.specs.Cases.{T-words}
-use Rattle.meaning.proofs.Numbers.{all-of-each-below}
-use Rattle.meaning.proofs.ItemByItem.{_and_, all-of-joined}
-use Rattle.meaning.proofs.Check.{well-formed-if-all-pass, check-yes, checked-if-well-formed}
-use Rattle.meaning.proofs.Counts.{word-count-is}
+use Rattle.meaning.specs.Problem.{header-words, problem-by, problem}
+use Rattle.meaning.specs.Cnf.{variables, cnf, cnf-words}
+use Rattle.meaning.specs.Calls.{check-problem, room-after-writing}
+use Rattle.meaning.specs.Cases.{T-words, limit-words}
+use Rattle.meaning.proofs.Check.{checked-if-well-formed}
+use Rattle.meaning.proofs.Calls.{write-cnf-is}
+use Rattle.meaning.proofs.AllLimits.{limits-formed, limits-counted}
 use Rattle.problem.specs.declared.Refusal.the-variants.{BadVersion, BadLiteral}
 use Rattle.encoder.specs.declared.Encoded.the-variants.{Written, RoomTooSmall}
 use Rattle.encoder.specs.declared.Counts.{Counts}
@@ -88,15 +78,15 @@ T-unknown = record { version = 9; words = T-words }
 
 -- The answer that document 01 lays down.
 unfoldable laid-down : Input → Answer
-unfolding header-words inputs-limit latches-limit gates-limit nodes-limit bound-limit problem-checked check-problem
+unfolding header-words inputs-limit latches-limit gates-limit nodes-limit bound-limit check-problem
 laid-down x = check-problem (x .version) (x .words)
 
 pub T-meets : Meets T (Good (numbers-of 6 12 37))
-unfolding laid-down header-words problem-by problem variable-count clause-count word-count
+unfolding laid-down header-words problem-by problem variables cnf cnf-words
 T-meets = record { answered = refl; numbered = refl }
 
 pub T-longer-meets : Meets T-longer (Good (numbers-of 10 23 75))
-unfolding laid-down header-words problem-by problem variable-count clause-count word-count
+unfolding laid-down header-words problem-by problem variables cnf cnf-words
 T-longer-meets = record { answered = refl; numbered = refl }
 
 pub T-bad-meets : Meets T-bad (Refused (BadLiteral 5))
@@ -139,100 +129,38 @@ always-counts-T-breaks = other-words-break T-longer-meets (λ e. omega arith)
 
 -- ════════ At all limits ════════
 
--- 0 0 0, then 6 n n for n = 0..31 and 7 n n for n = 32..62: one atom, and 63 U or R nodes, each over the node before it
-abbrev limit-nodes : List ℕ
-limit-nodes =
-    (0 ∷ 0 ∷ 0 ∷ [])
-    ++ each (numbers 0 (nodes-limit / 2)) (λ n. 6 ∷ n ∷ n ∷ [])
-    ++ each (numbers (nodes-limit / 2) (nodes-limit / 2 - 1)) (λ n. 7 ∷ n ∷ n ∷ [])
-
--- A 0 for each word of a latch or a gate before the nodes.
-abbrev limit-zeros : ℕ
-limit-zeros = 2 * latches-limit + 2 * gates-limit
-
--- "At all limits", with 437,012 words.
-unfoldable pub limits : List ℕ
-unfolding inputs-limit latches-limit gates-limit nodes-limit bound-limit
-limits = inputs-limit ∷ latches-limit ∷ gates-limit ∷ nodes-limit ∷ bound-limit ∷ (replicate limit-zeros 0 ++ limit-nodes)
-
-abbrev o : Outline
-o = outline 1 limits
-
-limits-zeros : (i : ℕ) → 5 ≤ i → i < node-place o 0 → word limits i ≡ 0
-unfolding limits header-words
-limits-zeros i l h =
-    ap (word limits) (sym (add-sub-of-le l)) ∙ sym (getD-drop 5 limits (i - 5) 0)
-    ∙ List·getD-append (replicate limit-zeros 0) limit-nodes 0 (i - 5) (rw length-replicate (omega arith))
-    ∙ getD-replicate limit-zeros (i - 5) 0 0 (omega arith)
-
--- Latches and gates of zeros are in range.
-limits-latches : (i : ℕ) → i < o .latches → all-of passing (latch-checks o limits i) ≡ true
-unfolding header-words
-limits-latches i h =
-    let at = latch-place o i in
-    let next : word limits at ≤ largest-literal o = omega (arith, limits-zeros at (omega arith) (omega arith)) in
-    let reset : word limits (at + 1) ≤ largest-reset = omega (arith, limits-zeros (at + 1) (omega arith) (omega arith)) in
-    both-true (le-leb _ _ next) (both-true (le-leb _ _ reset) refl)
-
-limits-gates : (j : ℕ) → j < o .gates → all-of passing (gate-checks o limits j) ≡ true
-unfolding header-words
-limits-gates j h =
-    let at = gate-place o j in
-    let left : word limits at < gate-limit o j = omega (arith, limits-zeros at (omega arith) (omega arith)) in
-    let right : word limits (at + 1) < gate-limit o j = omega (arith, limits-zeros (at + 1) (omega arith) (omega arith)) in
-    both-true (le-leb _ _ left) (both-true (le-leb _ _ right) refl)
-
-limits-nodes : all-of passing (each (numbers 0 (o .nodes)) (node-checks o limits)) ≡ true
-unfolding limits header-words
-limits-nodes = refl
-
-limits-right : WellFormed 1 limits
-unfolding limits header-words inputs-limit latches-limit gates-limit nodes-limit bound-limit
-limits-right =
-    well-formed-if-all-pass 1 limits
-    (all-of-joined passing (check-parts 1 limits) .1
-    (refl
-    and refl
-    and refl
-    and all-of-each-below passing (latch-checks o limits) (o .latches) limits-latches
-    and all-of-each-below passing (gate-checks o limits) (o .gates) limits-gates
-    and limits-nodes
-    and tt))
-
-limits-words : word-count (problem 1 limits) ≡ 437_012
-unfolding limits header-words problem-by problem word-count
-limits-words = refl
-
-pub limits-meets : Meets (over limits) (Good (numbers-of 41_057 127_346 437_012))
-unfolding limits header-words problem-by problem variable-count clause-count word-count
-limits-meets = record { answered = sym ((check-yes 1 limits) .1 limits-right); numbered = refl }
+pub limits-meets : Meets (over limit-words) (Good (numbers-of 41_057 127_346 437_012))
+limits-meets = record { answered = sym limits-formed; numbered = rw (limits-counted .0, limits-counted .1, limits-counted .2) }
 
 -- A room of fewer words.
-pub limits-small-room-meets : (n : ℕ) → n < 437_012 → writers.Meets (writers.over limits n) (RoomTooSmall 437_012) (replicate n (pos 9))
-unfolding write-cnf room-after-writing
+pub limits-small-room-meets : (n : ℕ) → n < 437_012 → writers.Meets (writers.over limit-words n) (RoomTooSmall 437_012) (replicate n (pos 9))
+unfolding room-after-writing
 limits-small-room-meets n h =
-    let words-are : 437_012 ≡ length (cnf-words (problem 1 limits)) = sym (word-count-is (problem 1 limits) ∙ limits-words) in
-    let small = too-small (problem 1 limits) {before = replicate n (pos 9)} words-are (rw length-replicate h) in
-    record { answered = small .answered ∙ sym (checked-if-well-formed 1 limits _ limits-right); room-after = small .room-after }
+    let words-are : 437_012 ≡ length (cnf-words (problem 1 limit-words)) = sym (limits-counted .2) in
+    let small = too-small (problem 1 limit-words) {before = replicate n (pos 9)} words-are (rw length-replicate h) in
+    record {
+      answered = small .answered ∙ sym (write-cnf-is 1 limit-words (length (replicate n (pos 9))) ∙ checked-if-well-formed 1 limit-words _ limits-formed);
+      room-after = small .room-after;
+    }
 
 -- ════════ The number of words in 16 bits ════════
 
 -- 437,012 cut to 16 bits is 43,796; no number of 16 bits will do.
-pub counted-in-16-bits-breaks : (c : Counts) → c .words < 2 ^ 16 → Breaks (over limits) (Good c)
+pub counted-in-16-bits-breaks : (c : Counts) → c .words < 2 ^ 16 → Breaks (over limit-words) (Good c)
 counted-in-16-bits-breaks c h = other-words-break limits-meets (λ e. omega arith)
 
-pub cut-count-breaks : (v c : ℕ) → Breaks (over limits) (Good (numbers-of v c (437_012 % 2 ^ 16)))
+pub cut-count-breaks : (v c : ℕ) → Breaks (over limit-words) (Good (numbers-of v c (437_012 % 2 ^ 16)))
 cut-count-breaks v c = counted-in-16-bits-breaks (numbers-of v c 43_796) (omega arith)
 
 module _ (after : List ℤ) where
   -- The answer at a room that is too small, of m words.
-  pub count-in-16-bits-breaks : (n m : ℕ) → n < 2 ^ 16 → m < 437_012 → writers.Breaks (writers.over limits m) (RoomTooSmall n) after
+  pub count-in-16-bits-breaks : (n m : ℕ) → n < 2 ^ 16 → m < 437_012 → writers.Breaks (writers.over limit-words m) (RoomTooSmall n) after
   count-in-16-bits-breaks n m l h = writers.other-answer-breaks (limits-small-room-meets m h) (λ e. let z : n ≡ 437_012 = cc in omega arith)
 
-  pub cut-need-breaks : writers.Breaks (writers.over limits 0) (RoomTooSmall (437_012 % 2 ^ 16)) after
+  pub cut-need-breaks : writers.Breaks (writers.over limit-words 0) (RoomTooSmall (437_012 % 2 ^ 16)) after
   cut-need-breaks = count-in-16-bits-breaks 43_796 0 (omega arith) (omega arith)
 
   -- A room of 43,796 words is too small, and the count that was cut says that it suffices.
-  pub cut-room-accepted-breaks : (n : ℕ) → writers.Breaks (writers.over limits 43_796) (Written n) after
+  pub cut-room-accepted-breaks : (n : ℕ) → writers.Breaks (writers.over limit-words 43_796) (Written n) after
   cut-room-accepted-breaks n =
       writers.other-answer-breaks (limits-small-room-meets 43_796 (omega arith)) (λ e. let z : _≡_ {A = ℕ} 0 1 = cc in omega arith)

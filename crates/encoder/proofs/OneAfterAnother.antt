@@ -1,5 +1,5 @@
 -- Words written one after the other, and clauses. Assumes nothing.
-use mathlib.Core.Path.{_≡_, refl, sym, _∙_, ap}
+use mathlib.Core.Path.{_≡_, refl, sym, _∙_, ap, subst}
 use mathlib.Core.List.{List, [], _∷_, _++_}
 use Prim.Native.Nat.{ℕ, _+_, _≤_, _<_}
 use native.Mathlib.Nat.{add-zero}
@@ -48,6 +48,10 @@ module _ {at m : ℕ} {xs a b : List ℤ} (first : Wrote at xs a b m) where
       }
 
 -- ════════ Clauses ════════
+
+-- The clauses by what they equal.
+pub wrote-by : {at m : ℕ} {a b : List ℤ} {cs ds : List Clause} → cs ≡ ds → Wrote at (words-of ds) a b m → Wrote at (words-of cs) a b m
+wrote-by {at} {m} {a} {b} e w = subst (λ (cs : List Clause). Wrote at (words-of cs) a b m) (sym e) w
 
 module _ {at : ℕ} (xs ys : List Clause) {a : List ℤ} where
   pub room-first : Room at (xs ++ ys) a → Room at xs a

@@ -11,19 +11,19 @@ use lib.IntN.{ℤ}
 use lib.ListN.{length}
 use Rattle.clauses.specs.Limits.{variables-limit}
 use Rattle.clauses.specs.Lists.{all-of}
-use Rattle.clauses.specs.Answers.{Answer, first-failing, granted, bad-refutation, area-too-small}
+use Rattle.clauses.specs.Answers.{Answer, first-failing, first-failing-part, granted, bad-refutation, area-too-small}
 use Rattle.clauses.specs.CnfWords.{words-of}
 use Rattle.clauses.specs.Refutations.{steps-of, refutation-checks, area-checks}
 use Rattle.clauses.proofs.Answers.{passing, first-failing-passed, number-of, refused-anyway}
-use Rattle.clauses.proofs.ReadBack.{clauses-back, within-no-zeros, clauses-fewer}
+use Rattle.clauses.proofs.ReadBack.{clauses-fewer}
 use Rattle.meaning.specs.Answers.{room-too-small}
 use Rattle.meaning.specs.Problem as problems
-use Rattle.meaning.specs.Check.{Proper}
+use Rattle.meaning.specs.Proper.{Proper}
 use Rattle.meaning.specs.Cnf.{cnf, cnf-words, variables}
-use Rattle.meaning.specs.Calls.{room-checked, before-steps}
-use Rattle.meaning.proofs.Check.{checked-if-well-formed}
-use Rattle.meaning.proofs.Counts.{variable-count-is, clause-count-is, word-count-is}
-use Rattle.meaning.proofs.Ranges.{literals-within, variables-fit}
+use Rattle.meaning.specs.Calls.{preparing-parts}
+use Rattle.meaning.proofs.Check.{checked-then, checked-if-well-formed}
+use Rattle.meaning.proofs.Ranges.{variables-fit}
+use Rattle.meaning.proofs.ReadBack.{cnf-read-back}
 use Rattle.problem.specs.declared.Outline.{Outline}
 use Rattle.problem.specs.declared.Refusal.{Refusal}
 use Rattle.problem.specs.declared.Checked.the-variants.{Good, Refused}
@@ -40,23 +40,21 @@ use Rattle.encoder.specs.Preparing.{PreparedFor, PreparedAs}
 
 module _ {p : problems.Problem} (proper : Proper p) {n : Counts} (counted : n ≡ counts-of p) where
   variables-counted : n .variables ≡ variables p
-  variables-counted = rw counted (sym (variable-count-is p (proper .nodes-some)))
+  variables-counted = ap (λ (c : Counts). c .variables) counted
 
   clauses-counted : n .clauses ≡ length (cnf p)
-  clauses-counted = rw counted (sym (clause-count-is p))
+  clauses-counted = ap (λ (c : Counts). c .clauses) counted
 
   pub words-counted : n .words ≡ length (cnf-words p)
-  words-counted = rw counted (sym (word-count-is p))
+  words-counted = ap (λ (c : Counts). c .words) counted
 
   pub few-variables : n .variables ≤ variables-limit
   few-variables = rw variables-counted (variables-fit p proper)
 
   pub fewer-clauses : n .clauses ≤ n .words
-  unfolding cnf-words
   fewer-clauses =
-      let back = clauses-back (cnf p) (within-no-zeros (variables p) (cnf p) (literals-within p proper)) in
-      let fewer : length (cnf p) ≤ length (words-of (cnf p)) = rw back at (clauses-fewer (words-of (cnf p))) in
-      rw (clauses-counted, words-counted) fewer
+      let back = cnf-read-back p proper in
+      rw (clauses-counted, words-counted) (rw back at (clauses-fewer (cnf-words p)))
 
   -- ════════ Before the CNF is written ════════
 
@@ -65,7 +63,6 @@ module _ {p : problems.Problem} (proper : Proper p) {n : Counts} (counted : n �
     Outcome = PreparedFor p refutation numbers places room
 
     pub room-refused : length room < n .words → Outcome (RoomTooSmall (n .words)) room
-    unfolding before-steps room-checked
     room-refused h =
         let short = lt-leb (length (cnf-words p)) (length room) (rw words-counted at h) in
         record { answered = λ steps. ap room-too-small words-counted ∙ rw short; room-after = refl; numbered = tt }
@@ -74,8 +71,7 @@ module _ {p : problems.Problem} (proper : Proper p) {n : Counts} (counted : n �
       -- The room's check passes: those of the words and of the areas are left.
       past-room : (steps : Answer)
           → first-failing (refutation-checks (n .variables) (n .clauses) refutation) (first-failing (area-checks (n .variables) (cnf p) (steps-of refutation) numbers places) steps)
-          ≡ before-steps p refutation (length room) numbers places steps
-      unfolding before-steps room-checked
+          ≡ first-failing-part (preparing-parts p refutation (length room) numbers places) steps
       past-room steps =
           let long = le-leb (length (cnf-words p)) (length room) (rw words-counted at room-there) in
           rw (long, ← variables-counted, ← clauses-counted)
@@ -93,7 +89,7 @@ module _ {p : problems.Problem} (proper : Proper p) {n : Counts} (counted : n �
       module _ {s : ℕ} (right : (all-of passing (refutation-checks (n .variables) (n .clauses) refutation) ≡ true) × (s ≡ length (steps-of refutation))) where
         past-words : (steps : Answer)
             → first-failing (area-checks (n .variables) (cnf p) (steps-of refutation) numbers places) steps
-            ≡ before-steps p refutation (length room) numbers places steps
+            ≡ first-failing-part (preparing-parts p refutation (length room) numbers places) steps
         past-words steps = sym (first-failing-passed (refutation-checks (n .variables) (n .clauses) refutation) _ (right .0)) ∙ past-room steps
 
         sum-is : n .clauses + s ≡ length (cnf p) + length (steps-of refutation)
@@ -142,14 +138,20 @@ module _ {version : ℕ} {ws : List ℕ} {refutation : List ℤ} {numbers places
       let same = good .outlined .problem-is in
       let b = rw same at a in
       record {
-        answered = λ steps. b .answered steps ∙ sym (checked-if-well-formed version ws _ (well-formed-if-good good));
+        answered = λ steps.
+            b .answered steps
+            ∙ sym
+            (checked-then version ws (preparing-parts (problems.problem version ws) refutation (length before) numbers places) steps
+            ∙ checked-if-well-formed version ws _ (well-formed-if-good good));
         room-after = b .room-after;
         numbered = b .numbered;
       }
 
   pub prepared-if-refused : {f : Refusal} → CheckedAs version ws (Refused f) → (before : List ℤ) → PreparedAs version ws refutation numbers places before (Problem f) before
   prepared-if-refused {f} refused before = record {
-    answered = λ steps. refused-whatever version ws f _ (refused .answered);
+    answered = λ steps.
+        refused-whatever version ws f _ (refused .answered)
+        ∙ sym (checked-then version ws (preparing-parts (problems.problem version ws) refutation (length before) numbers places) steps);
     room-after = refl;
     numbered = tt;
   }

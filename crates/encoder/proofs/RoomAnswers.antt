@@ -11,8 +11,9 @@ use Rattle.clauses.specs.CnfWords.{words-of}
 use Rattle.meaning.specs.Answers.{room-too-small}
 use Rattle.meaning.specs.Problem as problems
 use Rattle.meaning.specs.Cnf.{cnf, cnf-words}
-use Rattle.meaning.specs.Calls.{room-checked, write-cnf, room-after-writing}
+use Rattle.meaning.specs.Calls.{room-after-writing}
 use Rattle.meaning.proofs.Check.{checked-if-well-formed}
+use Rattle.meaning.proofs.Calls.{write-cnf-is}
 use Rattle.problem.specs.declared.Outline.{Outline}
 use Rattle.problem.specs.declared.Refusal.{Refusal}
 use Rattle.problem.specs.declared.Checked.the-variants.{Good, Refused}
@@ -29,18 +30,18 @@ use Rattle.encoder.specs.Writing.{Room, Wrote, RoomAnswered}
 module _ {version : ℕ} {ws : List ℕ} where
   pub encoded-if-good : {s : Outline} → CheckedAs version ws (Good s) → {before after : List ℤ} {r : Encoded}
       → RoomAnswered (problem-in s ws) before r after → EncodedAs version ws before r after
-  unfolding write-cnf room-after-writing
-  encoded-if-good good a =
+  unfolding room-after-writing
+  encoded-if-good good {before} a =
       let answer = rw (good .outlined .problem-is) at a in
       record {
-        answered = answer .answered ∙ sym (checked-if-well-formed version ws _ (well-formed-if-good good));
+        answered = answer .answered ∙ sym (write-cnf-is version ws (length before) ∙ checked-if-well-formed version ws _ (well-formed-if-good good));
         room-after = answer .room-after;
       }
 
   pub encoded-if-refused : {f : Refusal} → CheckedAs version ws (Refused f) → (before : List ℤ) → EncodedAs version ws before (Problem f) before
-  unfolding write-cnf room-after-writing
+  unfolding room-after-writing
   encoded-if-refused {f} refused before = record {
-    answered = refused-whatever version ws f _ (refused .answered);
+    answered = refused-whatever version ws f _ (refused .answered) ∙ sym (write-cnf-is version ws (length before));
     room-after = rw (ne-eqb (refusal-answer f .number) 0 (refusal-not-yes f));
   }
 
@@ -52,14 +53,13 @@ module _ (p : problems.Problem) {before : List ℤ} where
   room-suffices e h = record { fits = rw (zero-add, ← e) h }
 
   pub too-small : {n : ℕ} → n ≡ length (cnf-words p) → length before < n → RoomAnswered p before (RoomTooSmall n) before
-  unfolding room-checked
   too-small e h = record {
     answered = rw (lt-leb (length (cnf-words p)) (length before) (rw e at h)) (ap room-too-small e);
     room-after = refl;
   }
 
   pub all-written : {after : List ℤ} {r : ℕ} → Wrote 0 (words-of (cnf p)) before after r → RoomAnswered p before (Written r) after
-  unfolding room-checked cnf-words
+  unfolding cnf-words
   all-written w = record {
     answered = rw (le-leb (length (words-of (cnf p))) (length before) (rw zero-add at (w .fits))) (ap granted (w .ends ∙ zero-add _));
     room-after = w .holds ∙ rw zero-add;

@@ -6,7 +6,7 @@ use Prim.Native.Nat.{ℕ, _+_, _*_, _^_, _<_, _≤_}
 use native.Mathlib.Omega.{arith}
 use Rattle.meaning.specs.Limits.{inputs-limit, latches-limit, gates-limit, nodes-limit}
 use Rattle.meaning.specs.Problem.{Problem, Node, Left, constant, child, latch, gate, node}
-use Rattle.meaning.specs.Check.{LeftProper}
+use Rattle.meaning.specs.Proper.{LeftProper}
 use Rattle.problem.specs.declared.Outline.{Outline}
 use Rattle.problem.specs.Promise.{problem-in, ProperIn}
 use Rattle.problem.proofs.Outlines.{shows, bound-small, width-small}

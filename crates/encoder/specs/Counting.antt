@@ -6,8 +6,8 @@ use lib.ListN.{length}
 use Rattle.clauses.specs.Lists.{those}
 use Rattle.meaning.specs.Limits.{inputs-limit, latches-limit, gates-limit, nodes-limit, bound-limit}
 use Rattle.meaning.specs.Problem.{Problem, Node}
-use Rattle.meaning.specs.Counts as counts
-use Rattle.meaning.specs.Counts.{has-equal-form, has-or-form, has-until-form}
+use Rattle.meaning.proofs.ClosedForms as counts
+use Rattle.meaning.proofs.ClosedForms.{has-equal-form, has-or-form, has-until-form}
 use Rattle.encoder.specs.declared.count.Forms.{Forms}
 use Rattle.encoder.specs.declared.count.Tally.{Tally}
 use Rattle.encoder.specs.declared.count.Weights.{Weights}

@@ -13,10 +13,6 @@ use Rattle.encoder.specs.declared.forms.OpForm.{OpForm}
 use Rattle.encoder.specs.declared.forms.OpForm.the-variants.{Equal, And, Or, Until, Release}
 use Rattle.encoder.specs.Numbering.{Sized, Negatable}
 
--- Items 5 and 7: "(-s -x a)(-s x -a)".
-abbrev pub guarded-form : ℤ → ℤ → ℤ → List Clause
-guarded-form s x a = (negated s ∷ negated x ∷ a ∷ []) ∷ (negated s ∷ x ∷ negated a ∷ []) ∷ []
-
 -- Item 6: "(-s(l) -s(m))".
 abbrev pub excluded-pair : ℤ → ℤ → List Clause
 excluded-pair s m = (negated s ∷ negated m ∷ []) ∷ []

@@ -5,7 +5,7 @@ use lib.IntN.{ℤ}
 use Rattle.clauses.specs.Clauses.{variable-of}
 use Rattle.meaning.specs.Limits.{inputs-limit, latches-limit, gates-limit, nodes-limit, bound-limit}
 use Rattle.meaning.specs.Problem.{Problem, Node, W}
-use Rattle.meaning.specs.Check.{NodeProper}
+use Rattle.meaning.specs.Proper.{NodeProper}
 use Rattle.problem.specs.declared.Outline.{Outline}
 
 -- The problem has the outline's width and bound.

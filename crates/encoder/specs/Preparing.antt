@@ -1,16 +1,15 @@
 -- What the writer of a CNF for a refutation promises. Assumes nothing.
 use mathlib.Core.Path.{_≡_}
-use mathlib.Core.List.{List}
+use mathlib.Core.List.{List, _++_}
 use Prim.Native.Nat.{ℕ}
 use lib.IntN.{ℤ}
 use lib.ListN.{length}
 use Rattle.clauses.specs.Lists.{written}
-use Rattle.clauses.specs.Answers.{Answer, bad-refutation, area-too-small}
+use Rattle.clauses.specs.Answers.{Answer, first-failing-part, bad-refutation, area-too-small}
 use Rattle.meaning.specs.Answers.{room-too-small}
 use Rattle.meaning.specs.Problem as problems
-use Rattle.meaning.specs.Check.{problem-checked}
 use Rattle.meaning.specs.Cnf.{cnf-words}
-use Rattle.meaning.specs.Calls.{before-steps}
+use Rattle.meaning.specs.Calls.{check-parts, preparing-parts}
 use Rattle.problem.specs.Promise.{refusal-answer}
 use Rattle.encoder.specs.declared.Prepared.{Prepared}
 use Rattle.encoder.specs.declared.Prepared.the-variants.{Written, Problem, RoomTooSmall, BadRefutation, AreaTooSmall}
@@ -41,12 +40,12 @@ WrittenNumbered p (AreaTooSmall n) = Unit
 
 -- Of a good problem: 6, 11 and 12, or the CNF written; `numbers` and `places` are the lengths of the work areas.
 pub record PreparedFor (p : problems.Problem) (refutation : List ℤ) (numbers places : ℕ) (before : List ℤ) (r : Prepared) (after : List ℤ) : Type 0 where
-  pub answered : (steps : Answer) → prepared-then r steps ≡ before-steps p refutation (length before) numbers places steps
+  pub answered : (steps : Answer) → prepared-then r steps ≡ first-failing-part (preparing-parts p refutation (length before) numbers places) steps
   pub room-after : after ≡ prepared-room r p before
   pub numbered : WrittenNumbered p r
 
 -- Of any words: 15 and 1 to 5 first.
 pub record PreparedAs (version : ℕ) (ws : List ℕ) (refutation : List ℤ) (numbers places : ℕ) (before : List ℤ) (r : Prepared) (after : List ℤ) : Type 0 where
-  pub answered : (steps : Answer) → prepared-then r steps ≡ problem-checked version ws (before-steps (problems.problem version ws) refutation (length before) numbers places steps)
+  pub answered : (steps : Answer) → prepared-then r steps ≡ first-failing-part (check-parts version ws ++ preparing-parts (problems.problem version ws) refutation (length before) numbers places) steps
   pub room-after : after ≡ prepared-room r (problems.problem version ws) before
   pub numbered : WrittenNumbered (problems.problem version ws) r

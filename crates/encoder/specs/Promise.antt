@@ -7,9 +7,8 @@ use lib.ListN.{length}
 use Rattle.clauses.specs.Answers.{Answer, granted}
 use Rattle.meaning.specs.Answers.{room-too-small}
 use Rattle.meaning.specs.Problem as problems
-use Rattle.meaning.specs.Check.{check-problem}
-use Rattle.meaning.specs.Counts.{variable-count, clause-count, word-count}
-use Rattle.meaning.specs.Calls.{write-cnf, room-after-writing}
+use Rattle.meaning.specs.Cnf.{variables, cnf, cnf-words}
+use Rattle.meaning.specs.Calls.{check-problem, write-cnf, room-after-writing}
 use Rattle.problem.specs.Promise.{refusal-answer}
 use Rattle.encoder.specs.declared.Encoded.{Encoded}
 use Rattle.encoder.specs.declared.Encoded.the-variants.{Written, Problem, RoomTooSmall}
@@ -34,7 +33,7 @@ counted-answer (Good c) = granted 0
 counted-answer (Refused f) = refusal-answer f
 
 abbrev pub counts-of : problems.Problem → Counts
-counts-of p = record { variables = variable-count p; clauses = clause-count p; words = word-count p }
+counts-of p = record { variables = variables p; clauses = length (cnf p); words = length (cnf-words p) }
 
 abbrev pub Numbered : ℕ → List ℕ → ProblemCounted → Type 0
 Numbered version ws (Good c) = c ≡ counts-of (problems.problem version ws)

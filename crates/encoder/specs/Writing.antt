@@ -9,10 +9,10 @@ use lib.ListN.{length, take, drop}
 use Rattle.clauses.specs.Lists.{written}
 use Rattle.clauses.specs.Clauses.{Clause}
 use Rattle.clauses.specs.CnfWords.{words-of}
-use Rattle.clauses.specs.Answers.{granted}
+use Rattle.clauses.specs.Answers.{first-failing, granted}
 use Rattle.meaning.specs.Problem.{Problem}
 use Rattle.meaning.specs.Cnf.{cnf-words}
-use Rattle.meaning.specs.Calls.{room-checked}
+use Rattle.meaning.specs.Calls.{room-checks}
 use Rattle.problem.specs.declared.Outline.{Outline}
 use Rattle.encoder.specs.declared.Encoded.{Encoded}
 use Rattle.encoder.specs.Promise.{answer-of}
@@ -39,5 +39,5 @@ pub record RoomFor (s : Outline) (at : ℕ) (cs : Problem → List Clause) (room
 
 -- Writing where the problem is good: the answer to the room's length, and the room after it.
 pub record RoomAnswered (p : Problem) (before : List ℤ) (r : Encoded) (after : List ℤ) : Type 0 where
-  pub answered : answer-of r ≡ room-checked p (length before) (granted (length (cnf-words p)))
+  pub answered : answer-of r ≡ first-failing (room-checks p (length before)) (granted (length (cnf-words p)))
   pub room-after : after ≡ cond (eqb (answer-of r .number) 0) (written (cnf-words p) before) before

@@ -8,7 +8,7 @@ ghost use mathlib.Core.Bool.{cond};
 ghost use Prim.Native.Nat.{ℕ, suc, _+_, _^_, _<_};
 ghost use lib.Dec.{ltb};
 ghost use Rattle.clauses.specs.Lists.{sum};
-ghost use Rattle.meaning.specs.Counts.{fixed-resets, variables-of, item-totals};
+ghost use Rattle.meaning.proofs.ClosedForms.{fixed-resets, variables-of, item-totals};
 ghost use Rattle.problem.specs.Promise.{node-read, problem-in, ProperIn};
 ghost use Rattle.encoder.specs.Counting.{FormsOf, FewForms, Added, Few, Light, Weighs, Tallied, tally-of};
 

@@ -4,10 +4,10 @@ use crate::write::clause3;
 ghost use Prim.Native.Nat.{_+_, _≤_};
 ghost use lib.ListN.{length};
 ghost use Rattle.clauses.specs.CnfWords.{words-of};
-ghost use Rattle.meaning.specs.Cnf.{equal-form, or-form, and-form, until-form, release-form};
+ghost use Rattle.meaning.specs.Cnf.{equal-form, or-form, and-form, until-form, release-form, guarded-form};
 ghost use Rattle.encoder.specs.Numbering.{Negatable};
 ghost use Rattle.encoder.specs.Writing.{Room, Wrote};
-ghost use Rattle.encoder.specs.ItemParts.{form-over, NegatableForm, guarded-form, excluded-pair};
+ghost use Rattle.encoder.specs.ItemParts.{form-over, NegatableForm, excluded-pair};
 
 // An op's form over its children, which are literals by now; Until and Release end with one more.
 pub(crate) enum OpForm {

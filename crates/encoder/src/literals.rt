@@ -6,7 +6,7 @@ ghost use mathlib.Core.Path.{_≡_};
 ghost use Prim.Native.Nat.{_+_, _*_, _^_, _<_, _≤_};
 ghost use Rattle.meaning.specs.Limits.{nodes-limit};
 ghost use Rattle.meaning.specs.Problem.{Problem};
-ghost use Rattle.meaning.specs.Check.{LeftProper};
+ghost use Rattle.meaning.specs.Proper.{LeftProper};
 ghost use Rattle.meaning.specs.Cnf.{circuit-variable, literal-at, selector, node-variables, E, P, Q, left-at, Q-end};
 ghost use Rattle.problem.specs.Promise.{left-of, node-read};
 ghost use Rattle.encoder.specs.Numbering.{Sized, Small, Negatable, LiteralOf};

@@ -12,12 +12,10 @@ use Rattle.clauses.specs.CnfWords.{is-0, ended-by-0, words-of}
 use Rattle.clauses.proofs.Satisfaction.{first-true, second-true}
 use Rattle.clauses.proofs.ReadBack.{not-0, NoZeros, within-no-zeros}
 use Rattle.meaning.specs.Problem.{Problem}
-use Rattle.meaning.specs.Check.{Proper}
+use Rattle.meaning.specs.Proper.{Proper}
 use Rattle.meaning.specs.Cnf.{cnf, cnf-words, variables}
-use Rattle.meaning.specs.Counts.{variable-count, clause-count}
 use Rattle.meaning.specs.JobFile.{bytes-of, signed-decimal, header-line, clause-line, cnf-text}
 use Rattle.meaning.proofs.Numbers.{each-append}
-use Rattle.meaning.proofs.Counts.{variable-count-is, clause-count-is}
 use Rattle.meaning.proofs.Ranges.{literals-within}
 use Rattle.job_file.specs.Text.{word-text, words-text, flat-text}
 
@@ -43,8 +41,6 @@ flat-text-of-clauses : (v : ℕ) (cs : List Clause) → NoZeros cs → flat-text
 unfolding flat-text cnf-text
 flat-text-of-clauses v cs e = ap (λ (t : List ℕ). header-line v (length cs) ++ t) (text-of-clauses cs e)
 
-pub text-of-cnf : (p : Problem) → Proper p → flat-text (variable-count p) (clause-count p) (cnf-words p) ≡ cnf-text (variables p) (cnf p)
+pub text-of-cnf : (p : Problem) → Proper p → flat-text (variables p) (length (cnf p)) (cnf-words p) ≡ cnf-text (variables p) (cnf p)
 unfolding cnf-words
-text-of-cnf p proper =
-    rw (← variable-count-is p (proper .nodes-some), ← clause-count-is p)
-    (flat-text-of-clauses (variables p) (cnf p) (within-no-zeros (variables p) (cnf p) (literals-within p proper)))
+text-of-cnf p proper = flat-text-of-clauses (variables p) (cnf p) (within-no-zeros (variables p) (cnf p) (literals-within p proper))

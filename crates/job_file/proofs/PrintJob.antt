@@ -12,11 +12,11 @@ use Rattle.clauses.specs.Answers.{Answer, first-failing, granted}
 use Rattle.clauses.proofs.Answers.{first-failing-passed, all-pass-if-granted, refused-anyway, number-of}
 use Rattle.meaning.specs.Limits.{program-room}
 use Rattle.meaning.specs.Problem.{problem}
-use Rattle.meaning.specs.Check.{check-problem}
 use Rattle.meaning.specs.Cnf.{cnf, variables}
-use Rattle.meaning.specs.Calls.{write-cnf}
-use Rattle.meaning.specs.JobFile.{job-version, job-words, job-checks, job-checked, job-answer, job-problem, cnf-text, refusal-line, printed}
+use Rattle.meaning.specs.Calls.{check-problem, write-cnf}
+use Rattle.meaning.specs.JobFile.{job-version, job-words, job-checks, job-answer, job-problem, cnf-text, refusal-line, printed}
 use Rattle.meaning.proofs.Check.{proper-if-well-formed}
+use Rattle.meaning.proofs.Calls.{write-cnf-is, job-answer-is}
 use Rattle.problem.specs.declared.Refusal.{Refusal}
 use Rattle.problem.specs.Promise.{refusal-answer}
 use Rattle.problem.proofs.Unique.{refusal-not-yes}
@@ -50,8 +50,7 @@ module _ (bs : List ℕ) where
 
   -- A refusal of the bytes is the job's.
   pub text-if-bad : {a : Answer} → (a .number ≡ 0 → ⊥) → a ≡ first-failing (job-checks bs) (granted 0) → printed bs ≡ refusal-line a
-  unfolding job-answer job-checked
-  text-if-bad n e = text-if-refused n (refused-anyway (job-checks bs) (granted 0) _ e (λ z. n (number-of z)))
+  text-if-bad n e = text-if-refused n (refused-anyway (job-checks bs) (granted 0) _ e (λ z. n (number-of z)) ∙ sym (job-answer-is bs))
 
   -- ════════ A job that was read ════════
 
@@ -79,15 +78,18 @@ module _ (bs : List ℕ) where
       bytes-right = sym (rw good at (read .answered))
 
       answer-is : write-cnf (j .version) words program-room ≡ job-answer bs
-      unfolding job-answer job-checked
       answer-is =
           rw (version-is, words-are)
-          (sym (first-failing-passed (job-checks bs) _ (all-pass-if-granted (job-checks bs) (granted 0) (job-checks-refusing bs) bytes-right)))
+          (sym
+          (job-answer-is bs
+          ∙ first-failing-passed (job-checks bs) _ (all-pass-if-granted (job-checks bs) (granted 0) (job-checks-refusing bs) bytes-right)))
 
       -- A refusal of the check of the words is that of writing, and the job's.
       pub text-if-words-refused : (f : Refusal) → refusal-answer f ≡ check-problem (j .version) words → refusal-line (refusal-answer f) ≡ printed bs
-      unfolding write-cnf
-      text-if-words-refused f e = sym (text-if-refused (refusal-not-yes f) (refused-whatever (j .version) words f _ e ∙ answer-is))
+      text-if-words-refused f e =
+          sym
+          (text-if-refused (refusal-not-yes f)
+          (refused-whatever (j .version) words f _ e ∙ sym (write-cnf-is (j .version) words program-room) ∙ answer-is))
 
       module _ {r : Encoded} {after : List ℤ} {c : Counts}
           (e : EncodedAs (j .version) words (replicate program-room (pos 0)) r after) (numbered : c ≡ counts-of (problem (j .version) words)) where

@@ -20,15 +20,15 @@ use Rattle.clauses.proofs.Satisfaction.{both-true, first-true, second-true, all
 use Rattle.clauses.proofs.Answers.{number-of, passing, first-failing-passed, all-pass-if-yes}
 use Rattle.meaning.specs.Limits.{job-limit, program-room}
 use Rattle.meaning.specs.Problem.{Problem, problem, Outline, outline, latch-place, gate-place, node-place, words-in-all}
-use Rattle.meaning.specs.Check.{header-checks, limit-checks, length-checks, latch-checks, gate-checks, node-checks, each-below, check-parts, problem-checked, WellFormed, Proper}
+use Rattle.meaning.specs.Check.{header-checks, limit-checks, length-checks, latch-checks, gate-checks, node-checks, each-below}
+use Rattle.meaning.specs.Proper.{Proper}
 use Rattle.meaning.specs.Cnf.{cnf, cnf-words, variables}
-use Rattle.meaning.specs.Counts.{variable-count, clause-count}
-use Rattle.meaning.specs.Calls.{room-check, room-checked, write-cnf}
-use Rattle.meaning.specs.JobFile.{job-header, job-version, job-words, job-checks, job-checked, job-answer, job-problem, cnf-text, refusal-line, printed}
-use Rattle.meaning.proofs.Check.{passes-at, well-formed-if-all-pass, proper-if-well-formed}
+use Rattle.meaning.specs.Calls.{check-parts, WellFormed, room-checks, write-cnf}
+use Rattle.meaning.specs.JobFile.{job-header, job-version, job-words, job-checks, job-answer, job-problem, cnf-text, refusal-line, printed}
+use Rattle.meaning.proofs.Check.{passes-at, problem-checked, well-formed-if-all-pass, proper-if-well-formed}
+use Rattle.meaning.proofs.Calls.{write-cnf-is, job-answer-is}
 use Rattle.meaning.proofs.ItemByItem.{_and_, all-of-joined}
 use Rattle.meaning.proofs.Numbers.{all-of-each-below}
-use Rattle.meaning.proofs.Counts.{variable-count-is, clause-count-is, word-count-is}
 use Rattle.meaning.proofs.Ranges.{literals-within, variables-fit}
 use Rattle.encoder.proofs.CountsFit.{words-small}
 use Rattle.job_file.specs.declared.text.Printed.the-variants.{Short}
@@ -97,14 +97,14 @@ clauses-within-words [] = omega arith
 clauses-within-words (c ∷ cs) =
     omega (arith, clauses-within-words cs, length-append (ended-by-0 c) (words-of cs), length-append c (pos 0 ∷ []))
 
-clauses-by-words : (p : Problem) → clause-count p ≤ length (cnf-words p)
+clauses-by-words : (p : Problem) → length (cnf p) ≤ length (cnf-words p)
 unfolding cnf-words
-clauses-by-words p = omega (arith, clause-count-is p, clauses-within-words (cnf p))
+clauses-by-words p = clauses-within-words (cnf p)
 
 module _ (p : Problem) (proper : Proper p) where
-  variables-small : variable-count p < 2 ^ 32
+  variables-small : variables p < 2 ^ 32
   unfolding variables-limit
-  variables-small = omega (arith, variable-count-is p (proper .nodes-some), variables-fit p proper)
+  variables-small = omega (arith, variables-fit p proper)
 
   words-fit : All32Bits (cnf-words p)
   unfolding cnf-words
@@ -115,12 +115,12 @@ module _ (p : Problem) (proper : Proper p) where
   cnf-fits : length (cnf-words p) ≤ program-room → length (cnf-text (variables p) (cnf p)) ≤ text-limit
   unfolding text-limit program-room
   cnf-fits h =
-      let clauses : clause-count p < 2 ^ 32 = omega (arith, clauses-by-words p) in
-      let within = flat-within (variable-count p) (clause-count p) (cnf-words p) variables-small clauses words-fit in
+      let clauses : length (cnf p) < 2 ^ 32 = omega (arith, clauses-by-words p) in
+      let within = flat-within (variables p) (length (cnf p)) (cnf-words p) variables-small clauses words-fit in
       rw (← text-of-cnf p proper) (omega arith)
 
   words-few : length (cnf-words p) < place-limit
-  words-few = rw word-count-is (words-small p proper)
+  words-few = words-small p proper
 
 -- ════════ The answer to words ════════
 
@@ -168,13 +168,13 @@ module _ (version : ℕ) (ws : List ℕ) (few : length ws ≤ job-limit) where
       (all-of-joined passing (check-parts version ws) .1 (header and limits and lengths and latches and gates and nodes and tt)))
 
   write-low : (room : ℕ) → LowAnswer (write-cnf version ws room)
-  unfolding write-cnf room-checked
   write-low room =
       let p = problem version ws in
-      checked-low _ λ well.
+      rw (write-cnf-is)
+      (checked-low _ λ well.
       let words = words-few p (proper-if-well-formed version ws well) in
-      first-failing-low (room-check p room ∷ []) _ (both-true (lt-ltb _ _ words) refl) λ e.
-      record { number-low = omega arith; place-low = words }
+      first-failing-low (room-checks p room) _ (both-true (lt-ltb _ _ words) refl) λ e.
+      record { number-low = omega arith; place-low = words })
 
 -- ════════ The text of a job ════════
 
@@ -187,7 +187,7 @@ refusal-fits a h =
 
 module _ (bs : List ℕ) where
   answer-low : LowAnswer (job-answer bs)
-  unfolding job-answer job-checked job-checks job-words job-limit
+  unfolding job-checks job-words job-limit
   answer-low = go (leb (length bs) job-limit) refl
     where
       go : (b : Bool) → leb (length bs) job-limit ≡ b → LowAnswer (job-answer bs)
@@ -195,14 +195,15 @@ module _ (bs : List ℕ) where
           let short = leb-true (length bs) job-limit e in
           let low-length : ltb (length bs) place-limit ≡ true = lt-ltb (length bs) place-limit (omega arith) in
           let few : length (job-words bs) ≤ job-limit = omega (arith, length-words bs ((length bs - job-header) / 4)) in
-          first-failing-low (job-checks bs) _ (rw low-length) λ passed. write-low (job-version bs) (job-words bs) few program-room
-      go false e = rw e (record { number-low = omega arith; place-low = omega arith })
+          rw (job-answer-is)
+          (first-failing-low (job-checks bs) _ (rw low-length) λ passed. write-low (job-version bs) (job-words bs) few program-room)
+      go false e = rw (job-answer-is, e) (record { number-low = omega arith; place-low = omega arith })
 
   text-fits : job-answer bs .number ≡ 0 → length (cnf-text (variables (job-problem bs)) (cnf (job-problem bs))) ≤ text-limit
-  unfolding job-answer job-checked
   text-fits e =
-      let passed = all-pass-if-yes (job-checks bs) _ (job-checks-refusing bs) e in
-      let yes = number-of (sym (first-failing-passed (job-checks bs) _ passed)) ∙ e in
+      let yes-said = number-of (sym (job-answer-is bs)) ∙ e in
+      let passed = all-pass-if-yes (job-checks bs) _ (job-checks-refusing bs) yes-said in
+      let yes = number-of (sym (first-failing-passed (job-checks bs) _ passed)) ∙ yes-said in
       let well = well-if-written (job-version bs) (job-words bs) program-room yes in
       let fits = fits-if-written (job-version bs) (job-words bs) program-room yes in
       cnf-fits (job-problem bs) (proper-if-well-formed _ _ well) (fits .1)

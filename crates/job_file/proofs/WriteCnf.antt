@@ -14,10 +14,10 @@ use Rattle.clauses.specs.Answers.{granted}
 use Rattle.clauses.proofs.Answers.{number-of, place-of}
 use Rattle.meaning.specs.Answers.{room-too-small}
 use Rattle.meaning.specs.Problem.{problem}
-use Rattle.meaning.specs.Check.{WellFormed}
 use Rattle.meaning.specs.Cnf.{cnf-words}
-use Rattle.meaning.specs.Calls.{room-checked, write-cnf, room-after-writing}
+use Rattle.meaning.specs.Calls.{WellFormed, write-cnf, room-after-writing}
 use Rattle.meaning.proofs.Check.{well-formed-if-checked, checked-if-well-formed}
+use Rattle.meaning.proofs.Calls.{write-cnf-is}
 use Rattle.encoder.specs.declared.Encoded.{Encoded}
 use Rattle.encoder.specs.Promise.{answer-of, EncodedAs}
 
@@ -29,12 +29,10 @@ module _ (version : ℕ) (ws : List ℕ) where
 
   module _ (room : ℕ) (yes : write-cnf version ws room .number ≡ 0) where
     pub well-if-written : WellFormed version ws
-    unfolding write-cnf
-    well-if-written = well-formed-if-checked version ws _ yes
+    well-if-written = well-formed-if-checked version ws _ (number-of (sym (write-cnf-is version ws room)) ∙ yes)
 
     pub fits-if-written : (write-cnf version ws room .place ≡ needed) × (needed ≤ room)
-    unfolding write-cnf room-checked
-    fits-if-written = go (leb needed room) refl (checked-if-well-formed version ws _ well-if-written)
+    fits-if-written = go (leb needed room) refl (write-cnf-is version ws room ∙ checked-if-well-formed version ws _ well-if-written)
       where
         go : (b : Bool) → leb needed room ≡ b → write-cnf version ws room ≡ cond b (granted needed) (room-too-small needed)
             → (write-cnf version ws room .place ≡ needed) × (needed ≤ room)

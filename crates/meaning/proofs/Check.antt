@@ -1,19 +1,21 @@
--- The check says yes exactly to well-formed words, and their problem is proper. Assumes nothing.
-use mathlib.Core.Path.{_≡_, refl, sym, _∙_, ap}
+-- The check says yes exactly where its rules are met, and the problem of such words is proper. Assumes nothing.
+use mathlib.Core.Path.{_≡_, refl, sym, _∙_}
 use mathlib.Core.Logic.{_↔_}
 use mathlib.Core.Bool.{Bool, true, false, true≢false}
-use mathlib.Core.List.{List, [], _∷_}
+use mathlib.Core.List.{List, [], _∷_, _++_}
 use Prim.Native.Nat.{ℕ, zero, suc, _+_, _*_, _≤_, _<_, zero-le}
 use native.Mathlib.Omega.{arith}
 use borrow.Author.Tests.{leb-true, le-leb, ltb-true, lt-ltb, eqb-true, eq-eqb}
 use lib.Dec.{leb, lit<}
 use lib.ListN.{length, getD, List·getD-eq-default}
 use Rattle.clauses.specs.Lists.{all-of, joined}
-use Rattle.clauses.specs.Answers.{Answer, Check, check, first-failing, granted}
+use Rattle.clauses.specs.Answers.{Answer, Check, check, first-failing, first-failing-part, granted}
 use Rattle.clauses.proofs.Satisfaction.{both-true, false-if-not-true, all-of-at, first-true, second-true}
-use Rattle.clauses.proofs.Answers.{passing, refusing, first-failing-append, first-failing-passed, all-pass-if-yes, number-of}
+use Rattle.clauses.proofs.Answers.{passing, refusing, first-failing-passed, first-failing-joined, parts-append, all-pass-if-yes, number-of}
 use Rattle.meaning.specs.Problem.{Problem, atom, W, latch, gate, node, Outline, outline, word, node-place, children, node-of, read-latch, read-gate, read-node, problem-by, problem}
-use Rattle.meaning.specs.Check.{largest-literal, first-right, second-right, children-of, header-checks, limit-check, limit-checks, length-checks, latch-checks, gate-checks, node-checks, check-parts, first-failing-part, problem-checked, check-problem, LatchRight, GateRight, FirstRight, SecondRight, NodeRight, InLimits, WellFormed, NodeProper, Proper}
+use Rattle.meaning.specs.Check.{largest-literal, first-right, second-right, children-of, header-checks, limit-check, limit-checks, length-checks, latch-checks, gate-checks, node-checks}
+use Rattle.meaning.specs.Proper.{LatchRight, GateRight, FirstRight, SecondRight, NodeRight, InLimits, RulesMet, NodeProper, Proper}
+use Rattle.meaning.specs.Calls.{check-parts, check-problem, WellFormed}
 use Rattle.meaning.proofs.ItemByItem.{_and_, all-of-joined}
 use Rattle.meaning.proofs.Numbers.{length-map-numbers, getD-map-numbers, all-of-each-below, all-of-below}
 
@@ -89,13 +91,17 @@ module _ (o : Outline) (ws : List ℕ) (i : ℕ) where
         second-word = second-if-passes i (children-of op) (word ws (node-place o i + 2)) (passes-at (node-checks o ws i) 2 e (lit< tt));
       }
 
--- ════════ The parts of a check, any number of them ════════
-
-pub first-failing-joined : (ps : List (List Check)) (after : Answer) → first-failing-part ps after ≡ first-failing (joined ps) after
-first-failing-joined [] after = refl
-first-failing-joined (p ∷ ps) after = ap (first-failing p) (first-failing-joined ps after) ∙ sym (first-failing-append p (joined ps) after)
-
 -- ════════ All checks ════════
+
+-- The check, and what comes after it.
+unfoldable pub problem-checked : ℕ → List ℕ → Answer → Answer
+problem-checked version ws after = first-failing-part (check-parts version ws) after
+
+-- A call's order of answers is the check's parts and then its own.
+pub checked-then : (version : ℕ) (ws : List ℕ) (ps : List (List Check)) (after : Answer)
+    → first-failing-part (check-parts version ws ++ ps) after ≡ problem-checked version ws (first-failing-part ps after)
+unfolding problem-checked
+checked-then version ws ps after = parts-append (check-parts version ws) ps after
 
 abbrev pub all-checks : ℕ → List ℕ → List Check
 all-checks version ws = joined (check-parts version ws)
@@ -149,8 +155,8 @@ module _ (version : ℕ) (ws : List ℕ) where
     bound-within = most-if-passes ws 4 _ _ (passes-at (limit-checks ws) 4 e (lit< tt));
   }
 
-  pub all-pass-if-well-formed : WellFormed version ws → all-of passing (all-checks version ws) ≡ true
-  all-pass-if-well-formed w =
+  pub all-pass-if-rules-met : RulesMet version ws → all-of passing (all-checks version ws) ≡ true
+  all-pass-if-rules-met w =
       all-of-joined passing (check-parts version ws) .1
       (both-true (lt-ltb _ _ (w .version-known)) (both-true (le-leb _ _ (w .header-there)) refl)
       and limits-pass (w .in-limits)
@@ -160,8 +166,8 @@ module _ (version : ℕ) (ws : List ℕ) where
       and all-of-each-below passing (node-checks o ws) (o .nodes) (λ n l. node-passes o ws n (w .nodes-right n l))
       and tt)
 
-  pub well-formed-if-all-pass : all-of passing (all-checks version ws) ≡ true → WellFormed version ws
-  well-formed-if-all-pass e =
+  pub rules-met-if-all-pass : all-of passing (all-checks version ws) ≡ true → RulesMet version ws
+  rules-met-if-all-pass e =
       let parts = all-of-joined passing (check-parts version ws) .0 e in
       let header = parts .0 in
       let limits = parts .1 .0 in
@@ -181,6 +187,24 @@ module _ (version : ℕ) (ws : List ℕ) where
 
 -- ════════ What the answer says ════════
 
+module _ (version : ℕ) (ws : List ℕ) where
+  pub all-pass-if-well-formed : WellFormed version ws → all-of passing (all-checks version ws) ≡ true
+  unfolding check-problem
+  all-pass-if-well-formed w =
+      all-pass-if-yes (all-checks version ws) (granted 0) (all-checks-refusing version ws)
+      (number-of (sym (first-failing-joined (check-parts version ws) (granted 0)) ∙ w))
+
+  pub well-formed-if-all-pass : all-of passing (all-checks version ws) ≡ true → WellFormed version ws
+  unfolding check-problem
+  well-formed-if-all-pass e =
+      first-failing-joined (check-parts version ws) (granted 0) ∙ first-failing-passed (all-checks version ws) (granted 0) e
+
+  pub check-yes : WellFormed version ws ↔ RulesMet version ws
+  check-yes = (
+    λ w. rules-met-if-all-pass version ws (all-pass-if-well-formed w),
+    λ r. well-formed-if-all-pass (all-pass-if-rules-met version ws r),
+  )
+
 pub checked-if-well-formed : (version : ℕ) (ws : List ℕ) (after : Answer) → WellFormed version ws → problem-checked version ws after ≡ after
 checked-if-well-formed version ws after w =
     checked-by-all version ws after
@@ -190,11 +214,6 @@ pub well-formed-if-checked : (version : ℕ) (ws : List ℕ) (after : Answer) �
 well-formed-if-checked version ws after e =
     well-formed-if-all-pass version ws
     (all-pass-if-yes (all-checks version ws) after (all-checks-refusing version ws) (rw checked-by-all at e))
-
-pub check-yes : (version : ℕ) (ws : List ℕ) → (check-problem version ws ≡ granted 0) ↔ WellFormed version ws
-unfolding check-problem
-check-yes version ws =
-    (λ e. well-formed-if-checked version ws (granted 0) (number-of e), checked-if-well-formed version ws (granted 0))
 
 -- A refusal of the check does not depend on what comes after it.
 pub not-well-formed : (version : ℕ) (ws : List ℕ) (a b : Answer) → ¬ WellFormed version ws
@@ -274,7 +293,7 @@ width-of-words version ws = W-by (outline version ws) ws
 
 pub proper-if-well-formed : (version : ℕ) (ws : List ℕ) → WellFormed version ws → Proper (problem version ws)
 unfolding problem
-proper-if-well-formed version ws w = record {
+proper-if-well-formed version ws formed = record {
   inputs-within = rw inputs-by (within .inputs-within);
   latches-within = rw latches-by (within .latches-within);
   gates-within = rw gates-by (within .gates-within);
@@ -294,6 +313,9 @@ proper-if-well-formed version ws w = record {
   where
     o : Outline
     o = outline version ws
+
+    w : RulesMet version ws
+    w = check-yes version ws .0 formed
 
     within : InLimits o
     within = w .in-limits

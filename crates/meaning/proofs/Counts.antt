@@ -13,7 +13,7 @@ use Rattle.clauses.specs.Clauses.{Clause, negated}
 use Rattle.clauses.specs.CnfWords.{words-of}
 use Rattle.meaning.specs.Problem.{Problem, Latch, Node, latch, node, atom, both, either, next, until, release}
 use Rattle.meaning.specs.Cnf.{variables, positions, selector, latch-at, truth-item, gate-clauses, gates-item, reset-unit, resets-item, steps-item, closing-clauses, closing-item, selectors-item, P-clauses, Q-clauses, E-clauses, node-clauses, nodes-item, formula-item, cnf-items, cnf, cnf-words}
-use Rattle.meaning.specs.Counts.{fixed-resets, has-equal-form, has-or-form, has-until-form, tally, pairs, node-count, equal-weight, or-weight, until-weight, selected-weight, values-weight, end-weight, item-totals, variable-count, clause-count, word-count}
+use Rattle.meaning.proofs.ClosedForms.{fixed-resets, has-equal-form, has-or-form, has-until-form, tally, pairs, node-count, equal-weight, or-weight, until-weight, selected-weight, values-weight, end-weight, item-totals, variable-count, clause-count, word-count}
 use Rattle.meaning.proofs.Numbers.{length-numbers}
 use Rattle.meaning.proofs.ItemByItem.{_∷≡_, total, total-append, total-by-items}
 

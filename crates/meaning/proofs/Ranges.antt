@@ -15,10 +15,9 @@ use Rattle.clauses.specs.Clauses.{Clause, variable-of, literal-within, Within}
 use Rattle.clauses.proofs.Satisfaction.{both-true, all-of-append, all-of-map, all-of-if-at, first-true, second-true, variable-of-negated}
 use Rattle.meaning.specs.Limits.{inputs-limit, latches-limit, gates-limit, nodes-limit, bound-limit}
 use Rattle.meaning.specs.Problem.{Problem, Left, Node, W, latch-variable, gate-variable, latch, gate, node, constant, child, atom, both, either, next, until, release}
-use Rattle.meaning.specs.Check.{Proper, LeftProper, NodeProper}
+use Rattle.meaning.specs.Proper.{Proper, LeftProper, NodeProper}
 use Rattle.meaning.specs.Runs.{odd}
 use Rattle.meaning.specs.Cnf.{true-literal, false-literal, circuit-variable, literal-at, node-variables, selector, E, P, Q, Q-end, Q-at, left-at, variables, positions, latch-at, next-at, truth-item, gate-clauses, gates-item, reset-unit, resets-item, steps-item, closing-clauses, closing-item, selectors-item, P-clauses, Q-clauses, E-clauses, node-clauses, nodes-item, formula-item, cnf-items, cnf}
-use Rattle.meaning.specs.Counts.{largest-in, largest-variable}
 use Rattle.meaning.proofs.Numbers.{length-numbers, getD-numbers, all-of-each-number, all-of-each-below}
 use Rattle.meaning.proofs.ItemByItem.{_and_, within-by-items}
 use Rattle.meaning.proofs.Within.{clause-within, Fits, pos-fits, negated-fits, signed-fits, unit-within, two-fit, equal-form-within, or-form-within, and-form-within, until-form-within, release-form-within, selected-within, within-append}
@@ -215,6 +214,15 @@ literals-within p proper =
     )
 
 -- ════════ The largest variable ════════
+
+-- The largest number of a variable that stands in the clauses.
+abbrev pub largest-in : Clause → ℕ
+largest-in [] = 0
+largest-in (w ∷ ws) = max (variable-of w) (largest-in ws)
+
+abbrev pub largest-variable : List Clause → ℕ
+largest-variable [] = 0
+largest-variable (c ∷ cs) = max (largest-in c) (largest-variable cs)
 
 largest-in-at-most : (v : ℕ) (c : Clause) → clause-within v c ≡ true → largest-in c ≤ v
 largest-in-at-most v [] h = omega arith

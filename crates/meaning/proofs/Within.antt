@@ -1,5 +1,5 @@
 -- Literals of the variables 1 to v, and the forms over them. Assumes nothing.
-use mathlib.Core.Path.{_≡_, refl}
+use mathlib.Core.Path.{_≡_, refl, sym, subst}
 use mathlib.Core.Bool.{Bool, true, false}
 use mathlib.Core.List.{List, [], _∷_, _++_}
 use Prim.Native.Nat.{ℕ, _≤_}
@@ -8,7 +8,8 @@ use lib.IntN.{ℤ, pos}
 use Rattle.clauses.specs.Lists.{all-of}
 use Rattle.clauses.specs.Clauses.{Clause, negated, literal-within, Within}
 use Rattle.clauses.proofs.Satisfaction.{both-true, all-of-append, variable-of-negated}
-use Rattle.meaning.specs.Cnf.{signed, equal-form, or-form, and-form, until-form, release-form}
+use Rattle.meaning.specs.Cnf.{signed, equal-form, or-form, and-form, until-form, release-form, guarded-form}
+use Rattle.meaning.proofs.Duals.{and-is-dual, release-is-dual}
 
 -- ════════ Literals ════════
 
@@ -51,7 +52,8 @@ module _ {v : ℕ} where
       (both-true (two-fit hx (negated-fits hb)) (both-true (three-fit (negated-fits hx) ha hb) refl))
 
   pub and-form-within : {x a b : ℤ} → Fits v x → Fits v a → Fits v b → Within v (and-form x a b)
-  and-form-within hx ha hb = or-form-within (negated-fits hx) (negated-fits ha) (negated-fits hb)
+  and-form-within {x} {a} {b} hx ha hb =
+      subst (Within v) (sym (and-is-dual x a b)) (or-form-within (negated-fits hx) (negated-fits ha) (negated-fits hb))
 
   pub until-form-within : {x a b y : ℤ} → Fits v x → Fits v a → Fits v b → Fits v y → Within v (until-form x a b y)
   until-form-within hx ha hb hy =
@@ -60,11 +62,12 @@ module _ {v : ℕ} where
       (both-true (three-fit (negated-fits hx) hb ha) (both-true (three-fit (negated-fits hx) hb hy) refl)))
 
   pub release-form-within : {x a b y : ℤ} → Fits v x → Fits v a → Fits v b → Fits v y → Within v (release-form x a b y)
-  release-form-within hx ha hb hy = until-form-within (negated-fits hx) (negated-fits ha) (negated-fits hb) (negated-fits hy)
+  release-form-within {x} {a} {b} {y} hx ha hb hy =
+      subst (Within v) (sym (release-is-dual x a b y))
+      (until-form-within (negated-fits hx) (negated-fits ha) (negated-fits hb) (negated-fits hy))
 
   -- The two clauses that a selector turns on.
-  pub selected-within : {s x a : ℤ} → Fits v s → Fits v x → Fits v a
-      → Within v ((negated s ∷ negated x ∷ a ∷ []) ∷ (negated s ∷ x ∷ negated a ∷ []) ∷ [])
+  pub selected-within : {s x a : ℤ} → Fits v s → Fits v x → Fits v a → Within v (guarded-form s x a)
   selected-within hs hx ha =
       both-true (three-fit (negated-fits hs) (negated-fits hx) ha)
       (both-true (three-fit (negated-fits hs) hx (negated-fits ha)) refl)

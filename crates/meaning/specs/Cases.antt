@@ -1,22 +1,20 @@
--- Document 01's cases: T whole, the thirteen counts of witnesses, the figures at all limits, each by computing. Assumes nothing.
+-- Document 01's cases: T whole and the thirteen counts of witnesses, each by computing, and the words at all limits. Assumes nothing.
 use mathlib.Core.List.{List, [], _∷_, _++_, map}
 use mathlib.Core.Path.{_≡_, refl}
-use Prim.Native.Nat.{ℕ, _-_, _/_}
+use Prim.Native.Nat.{ℕ, _+_, _*_, _-_, _/_}
 use lib.ListN.{length, replicate}
 use Rattle.clauses.specs.Lists.{numbers, each}
 use Rattle.clauses.specs.Answers.{answer}
-use Rattle.clauses.specs.Refutations.{judge-clauses, judge-steps, refutation-checks, area-checks, step-accepted}
+use Rattle.clauses.specs.Refutations.{refutation-checks, area-checks, step-accepted}
 use Rattle.clauses.specs.Cases.{T-cnf, T-steps, T-other-steps}
 use Rattle.meaning.specs.Limits.{inputs-limit, latches-limit, gates-limit, nodes-limit, bound-limit, job-limit, program-room}
-use Rattle.meaning.specs.Problem.{Problem, child, atom, until, release, header-words, problem-by, problem}
-use Rattle.meaning.specs.Check.{problem-checked, check-problem}
+use Rattle.meaning.specs.Problem.{header-words, problem-by, problem}
 use Rattle.meaning.specs.Runs.{values, next-values}
 use Rattle.meaning.specs.Formulas.{formula}
-use Rattle.meaning.specs.Witnesses.{run, judge-formula, judge-run, judge-bytes, witnesses}
+use Rattle.meaning.specs.Witnesses.{run}
 use Rattle.meaning.specs.Cnf.{variables, cnf, cnf-words}
-use Rattle.meaning.specs.Counts.{variable-count, clause-count, word-count}
-use Rattle.meaning.specs.Calls.{room-checked, write-cnf, before-steps, judge-refutation}
-use Rattle.meaning.specs.JobFile.{job-words, job-checks, job-checked, bytes-of, decimal, cnf-text, refusal-line, job-answer, printed}
+use Rattle.meaning.specs.Calls.{check-problem, judge-bytes, witnesses, judge-refutation}
+use Rattle.meaning.specs.JobFile.{job-words, job-checks, bytes-of, decimal, cnf-text, refusal-line, job-answer, printed}
 
 -- ════════ Case T ════════
 
@@ -53,21 +51,21 @@ T-text =
     ++ bytes-of "4 0\n"
 
 T-is-printed : printed T-file ≡ T-text
-unfolding header-words problem-by problem cnf cnf-words variables inputs-limit latches-limit gates-limit nodes-limit bound-limit problem-checked room-checked write-cnf job-limit program-room job-words job-checks job-checked decimal cnf-text refusal-line job-answer printed
+unfolding header-words problem-by problem cnf cnf-words variables inputs-limit latches-limit gates-limit nodes-limit bound-limit job-limit program-room job-words job-checks decimal cnf-text refusal-line job-answer printed
 T-is-printed = refl
 
 -- "refused 15 at 0": a file of another version.
 other-version-is-refused : printed (9 ∷ 0 ∷ 0 ∷ 0 ∷ 0 ∷ []) ≡ bytes-of "refused 15 at 0\n"
-unfolding header-words job-limit job-checks job-checked decimal refusal-line job-answer printed
+unfolding header-words job-limit job-checks decimal refusal-line job-answer printed
 other-version-is-refused = refl
 
 -- "Refutation 0 2 12 5 0 is accepted; 0 12 5 0 is refused (13 at 0)."
 T-is-refuted : judge-refutation 1 T-words T-steps 38 7 13 ≡ answer 0 0
-unfolding header-words problem-by problem cnf cnf-words variables inputs-limit latches-limit gates-limit nodes-limit bound-limit problem-checked room-checked before-steps judge-refutation judge-clauses judge-steps refutation-checks area-checks step-accepted
+unfolding header-words problem-by problem cnf cnf-words variables inputs-limit latches-limit gates-limit nodes-limit bound-limit judge-refutation refutation-checks area-checks step-accepted
 T-is-refuted = refl
 
 T-is-not-refuted : judge-refutation 1 T-words T-other-steps 38 7 13 ≡ answer 13 0
-unfolding header-words problem-by problem cnf cnf-words variables inputs-limit latches-limit gates-limit nodes-limit bound-limit problem-checked room-checked before-steps judge-refutation judge-clauses judge-steps refutation-checks area-checks step-accepted
+unfolding header-words problem-by problem cnf cnf-words variables inputs-limit latches-limit gates-limit nodes-limit bound-limit judge-refutation refutation-checks area-checks step-accepted
 T-is-not-refuted = refl
 
 -- ════════ The thirteen counts ════════
@@ -80,7 +78,7 @@ H n k nodes =
 abbrev atom-word : ℕ → List ℕ
 atom-word x = 0 ∷ x ∷ 0 ∷ []
 
--- F, G and X of the node before it.
+-- F, G and X of node a.
 abbrev finally : ℕ → List ℕ
 finally a = 4 ∷ a ∷ 0 ∷ []
 
@@ -128,37 +126,28 @@ thirteen-cases =
 
 -- Each case is well formed, by the check, and has as many witnesses as it says, by the judge.
 thirteen-are-right : map (λ (c : Case). check-problem 1 (c .words)) thirteen-cases ≡ map (λ (c : Case). answer 0 0) thirteen-cases
-unfolding header-words inputs-limit latches-limit gates-limit nodes-limit bound-limit problem-checked check-problem
+unfolding header-words inputs-limit latches-limit gates-limit nodes-limit bound-limit check-problem
 thirteen-are-right = refl
 
 pub thirteen-counts : map (λ (c : Case). length (witnesses (problem 1 (c .words)))) thirteen-cases ≡ map (λ (c : Case). c .count) thirteen-cases
-unfolding header-words problem-by problem values next-values formula run judge-formula judge-run judge-bytes witnesses
+unfolding header-words problem-by problem values next-values formula run judge-bytes witnesses
 thirteen-counts = refl
 
 -- ════════ At all limits ════════
 
--- "At all limits, with every reset fixed and 63 U or R nodes over one atom": each of them names the node before it.
-abbrev pub at-all-limits : Problem
+-- "63 U or R nodes over one atom": node 0 is the atom 0, nodes 1 to 32 are 6 n n (U) and nodes 33 to 63 are 7 n n (R), each over the node n
+-- before it.
+abbrev pub limit-nodes : List ℕ
+limit-nodes =
+    (0 ∷ 0 ∷ 0 ∷ [])
+    ++ each (numbers 0 (nodes-limit / 2)) (λ n. 6 ∷ n ∷ n ∷ [])
+    ++ each (numbers (nodes-limit / 2) (nodes-limit / 2 - 1)) (λ n. 7 ∷ n ∷ n ∷ [])
+
+-- A 0 for each word of a latch (next 0, reset 0: "every reset fixed") or of a gate.
+abbrev pub limit-zeros : ℕ
+limit-zeros = 2 * latches-limit + 2 * gates-limit
+
+-- "At all limits, with every reset fixed and 63 U or R nodes over one atom": its numbers are `limits-counted` of proofs/AllLimits.
+unfoldable pub limit-words : List ℕ
 unfolding inputs-limit latches-limit gates-limit nodes-limit bound-limit
-at-all-limits = record {
-  inputs = inputs-limit;
-  latches = replicate latches-limit (record { next = 0; reset = 0 });
-  gates = replicate gates-limit (record { left = 0; right = 0 });
-  nodes =
-      (atom 0 ∷ [])
-      ++ map (λ n. until (child n) n) (numbers 0 (nodes-limit / 2))
-      ++ map (λ n. release (child n) n) (numbers (nodes-limit / 2) (nodes-limit / 2 - 1));
-  bound = bound-limit;
-}
-
-limits-variables : variable-count at-all-limits ≡ 41_057
-unfolding inputs-limit latches-limit gates-limit nodes-limit bound-limit variable-count
-limits-variables = refl
-
-limits-clauses : clause-count at-all-limits ≡ 127_346
-unfolding inputs-limit latches-limit gates-limit nodes-limit bound-limit clause-count
-limits-clauses = refl
-
-limits-words : word-count at-all-limits ≡ 437_012
-unfolding inputs-limit latches-limit gates-limit nodes-limit bound-limit word-count
-limits-words = refl
+limit-words = inputs-limit ∷ latches-limit ∷ gates-limit ∷ nodes-limit ∷ bound-limit ∷ (replicate limit-zeros 0 ++ limit-nodes)

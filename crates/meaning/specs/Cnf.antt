@@ -62,13 +62,13 @@ variables p = node-variables p (length (p .nodes) - 1) + 2 * (p .bound + 1)
 abbrev pub equal-form : ℤ → ℤ → List Clause
 equal-form x a = (negated x ∷ a ∷ []) ∷ (x ∷ negated a ∷ []) ∷ []
 
+-- "x=a and b: (-x a)(-x b)(x -a -b)"
+abbrev pub and-form : ℤ → ℤ → ℤ → List Clause
+and-form x a b = (negated x ∷ a ∷ []) ∷ (negated x ∷ b ∷ []) ∷ (x ∷ negated a ∷ negated b ∷ []) ∷ []
+
 -- "x=a or b: (x -a)(x -b)(-x a b)"
 abbrev pub or-form : ℤ → ℤ → ℤ → List Clause
 or-form x a b = (x ∷ negated a ∷ []) ∷ (x ∷ negated b ∷ []) ∷ (negated x ∷ a ∷ b ∷ []) ∷ []
-
--- "x=a and b: (-x a)(-x b)(x -a -b)": the dual of "or".
-abbrev pub and-form : ℤ → ℤ → ℤ → List Clause
-and-form x a b = or-form (negated x) (negated a) (negated b)
 
 -- "Until(x,a,b,y): (x -b)(x -a -y)(-x b a)(-x b y)"
 abbrev pub until-form : ℤ → ℤ → ℤ → ℤ → List Clause
@@ -79,9 +79,18 @@ until-form x a b y =
     ∷ (negated x ∷ b ∷ y ∷ [])
     ∷ []
 
--- "Release(x,a,b,y): (-x b)(-x a y)(x -b -a)(x -b -y)": the dual of Until.
+-- "Release(x,a,b,y): (-x b)(-x a y)(x -b -a)(x -b -y)"
 abbrev pub release-form : ℤ → ℤ → ℤ → ℤ → List Clause
-release-form x a b y = until-form (negated x) (negated a) (negated b) (negated y)
+release-form x a b y =
+    (negated x ∷ b ∷ [])
+    ∷ (negated x ∷ a ∷ y ∷ [])
+    ∷ (x ∷ negated b ∷ negated a ∷ [])
+    ∷ (x ∷ negated b ∷ negated y ∷ [])
+    ∷ []
+
+-- Items 5 and 7, x=a where s: "(-s -x a)(-s x -a)"
+abbrev pub guarded-form : ℤ → ℤ → ℤ → List Clause
+guarded-form s x a = (negated s ∷ negated x ∷ a ∷ []) ∷ (negated s ∷ x ∷ negated a ∷ []) ∷ []
 
 -- ════════ Items 1 to 6: the circuit and the selectors ════════
 
@@ -123,10 +132,7 @@ abbrev pub steps-item : Problem → List Clause
 steps-item p = each (numbers 0 (p .bound)) (λ t. each (latch-numbers p) (λ i. equal-form (latch-at p (t + 1) i) (next-at p t i)))
 
 abbrev pub closing-clauses : Problem → ℕ → ℕ → List Clause
-closing-clauses p l i =
-    (negated (selector p l) ∷ negated (latch-at p l i) ∷ next-at p (p .bound) i ∷ [])
-    ∷ (negated (selector p l) ∷ latch-at p l i ∷ negated (next-at p (p .bound) i) ∷ [])
-    ∷ []
+closing-clauses p l i = guarded-form (selector p l) (latch-at p l i) (next-at p (p .bound) i)
 
 -- "5. Each l, each latch x with next a at k: (-s -x a)(-s x -a)."
 abbrev pub closing-item : Problem → List Clause
@@ -180,10 +186,7 @@ Q-clauses p n (release a b) i =
 
 -- "for each l (-s(l) -E Q(l))(-s(l) E -Q(l))"
 abbrev pub E-clauses : Problem → ℕ → Node → ℕ → List Clause
-E-clauses p n x l =
-    (negated (selector p l) ∷ negated (E p n) ∷ Q-at p n x l ∷ [])
-    ∷ (negated (selector p l) ∷ E p n ∷ negated (Q-at p n x l) ∷ [])
-    ∷ []
+E-clauses p n x l = guarded-form (selector p l) (E p n) (Q-at p n x l)
 
 -- "then (-E s(0)..s(k))"
 abbrev pub E-closed : Problem → ℕ → Clause

@@ -8,13 +8,13 @@ use lib.Dec.{leb, ltb, eqb}
 use lib.IntN.{ℤ, pos, negsuc}
 use lib.ListN.{length, getD, take, drop}
 use Rattle.clauses.specs.Lists.{numbers, each}
-use Rattle.clauses.specs.Answers.{Answer, Check, check, first-failing}
+use Rattle.clauses.specs.Answers.{Answer, Check, check, first-failing-part, granted}
 use Rattle.clauses.specs.Clauses.{Clause}
 use Rattle.meaning.specs.Limits.{job-limit, program-room}
 use Rattle.meaning.specs.Answers.{bad-job}
 use Rattle.meaning.specs.Problem.{Problem, header-words, problem}
-use Rattle.meaning.specs.Cnf.{cnf, variables}
-use Rattle.meaning.specs.Calls.{write-cnf}
+use Rattle.meaning.specs.Cnf.{cnf, cnf-words, variables}
+use Rattle.meaning.specs.Calls.{writing-parts}
 
 -- ════════ The job file ════════
 
@@ -48,10 +48,6 @@ job-checks bs =
     ∷ check (ltb 0 (header-words (job-version bs))) (bad-job 0)
     ∷ check (eqb (job-length bs) (length bs - job-header) && eqb (job-length bs % 4) 0) (bad-job 1)
     ∷ []
-
--- The answer to the bytes of a job file, and what comes after where they are right.
-unfoldable pub job-checked : List ℕ → Answer → Answer
-job-checked bs after = first-failing (job-checks bs) after
 
 -- ════════ Texts ════════
 
@@ -96,13 +92,14 @@ refusal-line a = bytes-of "refused " ++ decimal (a .number) ++ bytes-of " at " +
 
 -- ════════ The program ════════
 
--- The answer to a job: 15, 1 to 6, or yes.
-unfoldable pub job-answer : List ℕ → Answer
-job-answer bs = job-checked bs (write-cnf (job-version bs) (job-words bs) program-room)
-
 -- The problem of a job.
 abbrev pub job-problem : List ℕ → Problem
 job-problem bs = problem (job-version bs) (job-words bs)
+
+-- The answer to a job: 15 of its bytes, then as of writing the CNF, 15, 1 to 6, or yes.
+unfoldable pub job-answer : List ℕ → Answer
+job-answer bs =
+    first-failing-part (job-checks bs ∷ writing-parts (job-version bs) (job-words bs) program-room) (granted (length (cnf-words (job-problem bs))))
 
 -- What the program prints for its standard input.
 unfoldable pub printed : List ℕ → List ℕ

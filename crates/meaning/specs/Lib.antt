@@ -3,12 +3,13 @@ pub mod Limits
 pub mod Answers
 pub mod Problem
 pub mod Check
+pub mod Proper
 pub mod Runs
 pub mod Formulas
 pub mod Bounded
+pub mod LassoValue
 pub mod Witnesses
 pub mod Cnf
-pub mod Counts
 pub mod Calls
 pub mod JobFile
 pub mod Cases

@@ -64,7 +64,7 @@ StartsRight p latches = (i : ℕ) → i < length (p .latches) → meets-reset (l
 -- An endless run of the circuit: "inputs are free at each position; latches start by their resets, and position t + 1 holds the next
 -- values of position t".
 pub record EndlessRun (p : Problem) (path : ℕ → Position) : Type 0 where
-  pub inputs-free : (t : ℕ) → length (path t .inputs) ≡ p .inputs
+  pub inputs-there : (t : ℕ) → length (path t .inputs) ≡ p .inputs
   pub latches-there : length (path 0 .latches) ≡ length (p .latches)
   pub starts-right : StartsRight p (path 0 .latches)
   pub steps-right : (t : ℕ) → path (suc t) .latches ≡ next-values p (path t)

@@ -1,17 +1,18 @@
--- Document 01: a witness as bytes, what makes it one, and the judge's answers 7 to 10. Assumes nothing.
+-- Document 01: a witness as bytes, what makes it one, and the checks 7 to 10 of its judge. Assumes nothing.
 use mathlib.Core.Bool.{Bool, true, false, Bool·beq}
 use mathlib.Core.List.{List, [], _∷_, _++_, map}
 use mathlib.Core.Path.{_≡_}
 use Prim.Native.Nat.{ℕ, zero, suc, _+_, _*_, _≤_, _<_}
 use lib.Dec.{leb, eqb}
 use lib.ListN.{length, getD, take, drop}
-use Rattle.clauses.specs.Lists.{numbers, numbered, each, those}
-use Rattle.clauses.specs.Answers.{Answer, Check, check, first-failing, granted}
+use Rattle.clauses.specs.Lists.{numbers, numbered, each}
+use Rattle.clauses.specs.Answers.{Check, check}
 use Rattle.meaning.specs.Answers.{bad-witness, against-reset, open-loop, formula-false}
 use Rattle.meaning.specs.Problem.{Problem, latch}
 use Rattle.meaning.specs.Runs.{Position, values, next-values, meets-reset, run-from, StartsRight}
 use Rattle.meaning.specs.Formulas.{formula, Holds}
-use Rattle.meaning.specs.Bounded.{Shape, prefix, lasso, looped, bounded-value}
+use Rattle.meaning.specs.Bounded.{Shape, prefix, lasso, looped, prefix-value}
+use Rattle.meaning.specs.LassoValue.{bounded-value}
 
 -- ════════ The bytes ════════
 
@@ -61,7 +62,7 @@ lasso-path p bs l t = position p bs (looped l (p .bound) t)
 
 -- The bounded meaning: a lasso by its endless path, a prefix by now-and-next with false past k.
 abbrev pub Shows : Problem → List ℕ → Shape → Type 0
-Shows p bs prefix = bounded-value prefix (p .bound) (rows p bs) (formula p) 0 ≡ true
+Shows p bs prefix = prefix-value (p .bound) (rows p bs) (formula p) 0 ≡ true
 Shows p bs (lasso l) = Closes p bs l × Holds p (formula p) (lasso-path p bs l) 0
 
 pub record Witness (p : Problem) (bs : List ℕ) : Type 0 where
@@ -100,18 +101,8 @@ loop-checks p bs (lasso l) =
     (numbers 0 (length (p .latches)))
 
 -- 10: the formula's value at 0.
-abbrev pub formula-check : Problem → List ℕ → Check
-formula-check p bs = check (bounded-value (shape bs) (p .bound) (rows p bs) (formula p) 0) (formula-false 0)
-
--- 7 to 10 in their order, or yes; each part is looked at only where those before it pass.
-unfoldable pub judge-formula : Problem → List ℕ → Answer
-judge-formula p bs = first-failing (formula-check p bs ∷ []) (granted 0)
-
-unfoldable pub judge-run : Problem → List ℕ → Answer
-judge-run p bs = first-failing (reset-checks p bs ++ loop-checks p bs (shape bs)) (judge-formula p bs)
-
-unfoldable pub judge-bytes : Problem → List ℕ → Answer
-judge-bytes p bs = first-failing (byte-checks p bs) (judge-run p bs)
+abbrev pub formula-checks : Problem → List ℕ → List Check
+formula-checks p bs = check (bounded-value (shape bs) (p .bound) (rows p bs) (formula p) 0) (formula-false 0) ∷ []
 
 -- ════════ All witnesses ════════
 
@@ -124,7 +115,3 @@ all-bits (suc n) = map (λ bs. 0 ∷ bs) (all-bits n) ++ map (λ bs. 1 ∷ bs) (
 abbrev pub candidates : Problem → List (List ℕ)
 candidates p =
     each (numbers 0 (p .bound + 2)) (λ b. map (λ bs. b ∷ bs) (all-bits (length (p .latches) + p .inputs * (p .bound + 1))))
-
--- Those that the judge accepts.
-unfoldable pub witnesses : Problem → List (List ℕ)
-witnesses p = those (λ bs. eqb (judge-bytes p bs .number) 0) (candidates p)

@@ -1,22 +1,23 @@
 -- The CNF can be satisfied exactly if a witness exists at a bound from 0 to k; and what its refutations say. Assumes nothing.
 use mathlib.Core.Path.{_≡_, refl, sym, _∙_}
-use mathlib.Core.List.{List, [], _∷_}
+use mathlib.Core.List.{List}
 use Prim.Native.Nat.{ℕ, _≤_}
 use native.Mathlib.Nat.{le-refl}
 use lib.IntN.{ℤ}
-use Rattle.clauses.specs.Answers.{granted}
+use Rattle.clauses.specs.Answers.{first-failing, granted}
 use Rattle.clauses.specs.Clauses.{Assignment}
 use Rattle.clauses.specs.Refutable.{Refutation}
-use Rattle.clauses.proofs.Answers.{after-if-granted, number-of}
+use Rattle.clauses.proofs.Answers.{after-if-granted, clauses-judged, number-of}
 use Rattle.clauses.proofs.Sound.{refuted-clauses}
 use Rattle.clauses.proofs.Complete.{refutable}
 use Rattle.meaning.specs.Problem.{Problem, problem}
-use Rattle.meaning.specs.Check.{WellFormed, Proper}
+use Rattle.meaning.specs.Proper.{Proper}
 use Rattle.meaning.specs.Witnesses.{Witness}
 use Rattle.clauses.specs.Refutations.{judge-clauses}
 use Rattle.meaning.specs.Cnf.{cnf, variables}
-use Rattle.meaning.specs.Calls.{room-check, room-checked, before-steps, judge-refutation}
-use Rattle.meaning.proofs.Check.{checked-if-well-formed, well-formed-if-checked, proper-if-well-formed}
+use Rattle.meaning.specs.Calls.{WellFormed, room-checks, judge-refutation}
+use Rattle.meaning.proofs.Check.{problem-checked, checked-if-well-formed, well-formed-if-checked, proper-if-well-formed}
+use Rattle.meaning.proofs.Calls.{refutation-by-clauses}
 use Rattle.meaning.proofs.Ranges.{literals-within}
 use Rattle.pairing.specs.Bounds.{at-bound}
 use Rattle.pairing.specs.Pairs.{Model, WitnessAtOrBelow, SatisfiableAtOrBelow}
@@ -45,16 +46,16 @@ module _ (p : Problem) (proper : Proper p) where
 -- ════════ Refutations ════════
 
 module _ (version : ℕ) (ws : List ℕ) (refutation : List ℤ) (room m n : ℕ) (yes-said : judge-refutation version ws refutation room m n ≡ granted 0) where
+  checked : problem-checked version ws (first-failing (room-checks (problem version ws) room) (judge-clauses (variables (problem version ws)) (cnf (problem version ws)) refutation m n))
+      ≡ granted 0
+  checked = sym (refutation-by-clauses version ws refutation room m n) ∙ yes-said
+
   formed-if-refuted : WellFormed version ws
-  unfolding judge-refutation
-  formed-if-refuted = well-formed-if-checked version ws _ (number-of yes-said)
+  formed-if-refuted = well-formed-if-checked version ws _ (number-of checked)
 
   -- The checks of the problem and of the room pass, so the answer is that to the CNF's refutation.
   cnf-refuted : judge-clauses (variables (problem version ws)) (cnf (problem version ws)) refutation m n ≡ granted 0
-  unfolding judge-refutation before-steps room-checked judge-clauses
-  cnf-refuted =
-      after-if-granted (room-check (problem version ws) room ∷ []) (judge-clauses (variables (problem version ws)) (cnf (problem version ws)) refutation m n) refl
-      (sym (checked-if-well-formed version ws _ formed-if-refuted) ∙ yes-said)
+  cnf-refuted = after-if-granted (room-checks (problem version ws) room) _ refl (sym (checked-if-well-formed version ws _ formed-if-refuted) ∙ checked)
 
   unsatisfied : (a : Assignment) → Model (problem version ws) a → ⊥
   unsatisfied a model = refuted-clauses (variables (problem version ws)) (cnf (problem version ws)) refutation m n cnf-refuted a (model .satisfies)

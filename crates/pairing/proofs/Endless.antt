@@ -2,7 +2,7 @@
 use mathlib.Core.Path.{_≡_, sym, _∙_, ap}
 use mathlib.Core.Logic.{_⊎_, inl, inr}
 use mathlib.Core.List.{List}
-use Prim.Native.Nat.{ℕ, zero, suc, _+_, _<_, _≤_, zero-le}
+use Prim.Native.Nat.{ℕ, zero, suc, _+_, _<_, _≤_}
 use native.Mathlib.Omega.{arith}
 use lib.ListN.{length}
 use Rattle.clauses.specs.Answers.{granted}
@@ -10,7 +10,8 @@ use Rattle.meaning.specs.Problem.{Problem}
 use Rattle.meaning.specs.Runs.{Position, values, next-values, StartsRight, EndlessRun}
 use Rattle.meaning.specs.Formulas.{formula, Holds}
 use Rattle.meaning.specs.Bounded.{prefix, lasso, after, looped}
-use Rattle.meaning.specs.Witnesses.{witness-length, byte, shape, first-latches, inputs-at, position, rows, Closes, lasso-path, Shows, Witness, judge-bytes}
+use Rattle.meaning.specs.Witnesses.{witness-length, byte, shape, first-latches, inputs-at, position, rows, Closes, lasso-path, Shows, Witness}
+use Rattle.meaning.specs.Calls.{judge-bytes}
 use Rattle.pairing.proofs.UntilOnLassos.{after-cases, looped-within}
 use Rattle.pairing.proofs.Meaning.{prefix-value-true}
 use Rattle.pairing.proofs.Runs.{position-first, position-inputs, position-next, length-first-latches, length-inputs-at}
@@ -31,7 +32,7 @@ module _ (p : Problem) (bs : List ℕ) (l : ℕ) where
 
   pub lasso-path-run : Witness p bs → l ≤ p .bound → Closes p bs l → EndlessRun p (lasso-path p bs l)
   lasso-path-run w fits closes = record {
-    inputs-free = λ t.
+    inputs-there = λ t.
         let within = looped-within l (p .bound) fits t in
         ap length (position-inputs p bs (looped l (p .bound) t) within)
         ∙ length-inputs-at p bs (w .length-right) (looped l (p .bound) t) within;
@@ -82,4 +83,4 @@ pub prefix-true : (p : Problem) (bs : List ℕ) → judge-bytes p bs ≡ granted
 prefix-true p bs e is-prefix path runs begins same-inputs =
     let shown : Shows p bs prefix = rw is-prefix at (accepted-is-witness p bs .0 e .shows) in
     prefix-value-true (p .bound) (rows p bs) (λ t. values p (path t))
-    (λ t h. ap (values p) (same-run p bs path runs begins same-inputs t h)) (formula p) 0 zero-le shown
+    (λ t h. ap (values p) (same-run p bs path runs begins same-inputs t h)) (formula p) 0 shown

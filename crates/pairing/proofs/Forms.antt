@@ -1,5 +1,5 @@
 -- Each form of clauses is satisfied exactly where an equation between its literals' values holds. Assumes nothing.
-use mathlib.Core.Path.{_≡_, refl, sym, _∙_, ap}
+use mathlib.Core.Path.{_≡_, refl, sym, _∙_, ap, subst}
 use mathlib.Core.Logic.{_↔_, Iff·rfl, Iff·trans}
 use mathlib.Core.Bool.{Bool, true, false, not, _&&_, _||_, cond, Bool·beq, Bool·not-not, and-true, or-false, false≢true}
 use mathlib.Core.List.{List, [], _∷_, map}
@@ -9,7 +9,8 @@ use Rattle.clauses.specs.Clauses.{Clause, Assignment, negated, literal-true, Sa
 use Rattle.clauses.specs.CnfWords.{is-0}
 use Rattle.clauses.proofs.Satisfaction.{negated-negated, literal-true-negated, some-of-map}
 use Rattle.meaning.specs.Runs.{turned}
-use Rattle.meaning.specs.Cnf.{signed, equal-form, or-form, and-form, until-form, release-form}
+use Rattle.meaning.specs.Cnf.{signed, equal-form, or-form, and-form, until-form, release-form, guarded-form}
+use Rattle.meaning.proofs.Duals.{and-is-dual, release-is-dual}
 
 -- ════════ What a literal reads ════════
 
@@ -122,24 +123,23 @@ module _ {a : Assignment} where
   -- The duals.
   pub and-form-is : {x y z : ℤ} {p q r : Bool} → Reads a x p → Reads a y q → Reads a z r
       → Satisfies a (and-form x y z) ↔ (p ≡ (q && r))
-  and-form-is {q} {r} rx ry rz = Iff·trans (or-form-is (negated-reads rx) (negated-reads ry) (negated-reads rz)) (dual (not-and q r))
+  and-form-is {x} {y} {z} {p} {q} {r} rx ry rz =
+      subst (λ (cs : List Clause). Satisfies a cs ↔ (p ≡ (q && r))) (sym (and-is-dual x y z))
+      (Iff·trans (or-form-is (negated-reads rx) (negated-reads ry) (negated-reads rz)) (dual (not-and q r)))
 
   pub release-form-is : {x y z w : ℤ} {p q r s : Bool} → Reads a x p → Reads a y q → Reads a z r → Reads a w s
       → Satisfies a (release-form x y z w) ↔ (p ≡ (r && (q || s)))
-  release-form-is {q} {r} {s} rx ry rz rw′ =
-      Iff·trans (until-form-is (negated-reads rx) (negated-reads ry) (negated-reads rz) (negated-reads rw′))
-      (dual (rw (not-and r (q || s), not-or q s)))
+  release-form-is {x} {y} {z} {w} {p} {q} {r} {s} rx ry rz rw′ =
+      subst (λ (cs : List Clause). Satisfies a cs ↔ (p ≡ (r && (q || s)))) (sym (release-is-dual x y z w))
+      (Iff·trans (until-form-is (negated-reads rx) (negated-reads ry) (negated-reads rz) (negated-reads rw′))
+      (dual (rw (not-and r (q || s), not-or q s))))
 
 -- ════════ The clauses of the selectors ════════
 
--- "(-s -x a)(-s x -a)": x = a where s.
-abbrev pub equal-where : ℤ → ℤ → ℤ → List Clause
-equal-where s x y = (negated s ∷ negated x ∷ y ∷ []) ∷ (negated s ∷ x ∷ negated y ∷ []) ∷ []
-
 module _ {a : Assignment} where
-  pub equal-where-is : {s x y : ℤ} {c p q : Bool} → Reads a s c → Reads a x p → Reads a y q
-      → Satisfies a (equal-where s x y) ↔ (c ≡ true → p ≡ q)
-  equal-where-is {c} rs rx ry = rw (rs .negation, or-in-front) (Iff·trans (true-where c _) (under (equal-form-is rx ry)))
+  pub guarded-form-is : {s x y : ℤ} {c p q : Bool} → Reads a s c → Reads a x p → Reads a y q
+      → Satisfies a (guarded-form s x y) ↔ (c ≡ true → p ≡ q)
+  guarded-form-is {c} rs rx ry = rw (rs .negation, or-in-front) (Iff·trans (true-where c _) (under (equal-form-is rx ry)))
 
   pub one-false-is : {s t : ℤ} {c d : Bool} → Reads a s c → Reads a t d
       → Satisfies a ((negated s ∷ negated t ∷ []) ∷ []) ↔ (c && d ≡ false)

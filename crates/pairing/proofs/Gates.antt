@@ -10,7 +10,7 @@ use native.Mathlib.Omega.{arith}
 use lib.ListN.{length, getD, length-append, List·getD-append}
 use lib.Seq.{getD-append-add, getD-append-seam, ext-getD}
 use Rattle.meaning.specs.Problem.{Problem, Gate, W, latch-variable, gate-variable, gate}
-use Rattle.meaning.specs.Check.{Proper}
+use Rattle.meaning.specs.Proper.{Proper}
 use Rattle.meaning.specs.Runs.{Position, turned, odd, literal-value, gate-value, with-gates, values}
 
 -- ════════ Literals ════════
@@ -42,7 +42,7 @@ length-with-gates [] vs = sym (add-zero (length vs))
 length-with-gates (g ∷ gs) vs = length-with-gates gs _ ∙ simp length-append (omega arith)
 
 -- The values that are there stay.
-pub with-gates-before : (gs : List Gate) (vs : List Bool) (v : ℕ) → v < length vs → getD (with-gates gs vs) v false ≡ getD vs v false
+with-gates-before : (gs : List Gate) (vs : List Bool) (v : ℕ) → v < length vs → getD (with-gates gs vs) v false ≡ getD vs v false
 with-gates-before [] vs v h = refl
 with-gates-before (g ∷ gs) vs v h =
     with-gates-before gs _ v (simp length-append (omega arith)) ∙ List·getD-append vs _ false v h
@@ -100,6 +100,15 @@ with-gates-unique (g ∷ gs) vs ws e n same gates =
 -- The values before the gates.
 abbrev given : Position → List Bool
 given x = false ∷ (x .inputs ++ x .latches)
+
+-- Variable 0 is false at each position.
+abbrev pub ZeroFalse : (ℕ → List Bool) → Type 0
+ZeroFalse rows = (i : ℕ) → getD (rows i) 0 false ≡ false
+
+-- Gates are added behind the values, so the first stays.
+pub values-zero-false : (p : Problem) (path : ℕ → Position) → ZeroFalse (λ t. values p (path t))
+unfolding values
+values-zero-false p path t = with-gates-before (p .gates) (given (path t)) 0 (suc-le-suc zero-le)
 
 module _ (p : Problem) (x : Position) (inputs-there : length (x .inputs) ≡ p .inputs)
     (latches-there : length (x .latches) ≡ length (p .latches)) where

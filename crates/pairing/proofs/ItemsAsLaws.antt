@@ -11,12 +11,12 @@ use Rattle.clauses.specs.Lists.{numbers, each}
 use Rattle.clauses.specs.Clauses.{Clause, Assignment, clause-true, Satisfies}
 use Rattle.clauses.proofs.Satisfaction.{satisfies-append, satisfies-first, satisfies-second}
 use Rattle.meaning.specs.Problem.{Problem, latch, gate, latch-variable, gate-variable}
-use Rattle.meaning.specs.Check.{Proper}
+use Rattle.meaning.specs.Proper.{Proper}
 use Rattle.meaning.specs.Runs.{literal-value, gate-value, meets-reset}
 use Rattle.meaning.specs.Cnf.{true-literal, next-at, truth-item, gates-item, reset-unit, resets-item, steps-item, closing-item, selectors-item, formula-item}
 use Rattle.meaning.proofs.Numbers.{all-of-each-number, all-of-number, all-of-each-below, all-of-below}
 use Rattle.pairing.specs.ModelLaws.{reading, row}
-use Rattle.pairing.proofs.Forms.{Reads, literal-reads, negated-reads, unit-is, equal-form-is, and-form-is, equal-where-is, one-false-is}
+use Rattle.pairing.proofs.Forms.{Reads, literal-reads, negated-reads, unit-is, equal-form-is, and-form-is, guarded-form-is, one-false-is}
 use Rattle.pairing.proofs.Readings.{circuit-reads, selector-reads, literal-at-reads, P-reads}
 
 -- ════════ Lists of clauses ════════
@@ -104,7 +104,7 @@ module _ (p : Problem) (a : Assignment) where
       → reading p a .circuit l (latch-variable p i) ≡ literal-value (row p (reading p a) (p .bound)) (latch p i .next))
   closing-item-is proper =
       Iff·trans (each-up-to-is a _ (p .bound) (λ l h. each-below-is a _ (length (p .latches)) (λ i b.
-      equal-where-is (selector-reads p a l) (circuit-reads p a l (latch-variable p i)) (next-reads proper (p .bound) i b)))) numbers-first
+      guarded-form-is (selector-reads p a l) (circuit-reads p a l (latch-variable p i)) (next-reads proper (p .bound) i b)))) numbers-first
 
   -- "6. l < m, by l then m: (-s(l) -s(m))."
   pub selectors-item-is : Satisfies a (selectors-item p) ↔ ((l m : ℕ) → l < m → m ≤ p .bound

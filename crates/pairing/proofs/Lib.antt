@@ -1,9 +1,11 @@
 -- The theorems that join models, witnesses and endless runs.
 pub mod UntilOnLassos
+pub mod Prefixes
 pub mod Meaning
 pub mod Runs
 pub mod Witnesses
 pub mod Endless
+pub mod WithoutLoop
 pub mod Judged
 pub mod Trees
 pub mod Unrolled
@@ -25,5 +27,6 @@ pub mod WitnessReading
 pub mod PairsOff
 pub mod Longer
 pub mod AtOrBelow
+pub mod Refutable
 pub mod ListedWitnesses
 pub mod Thirteen

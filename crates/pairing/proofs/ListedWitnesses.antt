@@ -9,31 +9,23 @@ use native.Mathlib.Omega.{arith}
 use borrow.Author.Tests.{eqb-true}
 use lib.Dec.{eqb}
 use lib.ListN.{length, getD, drop}
-use Rattle.clauses.specs.Lists.{numbers, each, all-of, those}
-use Rattle.clauses.specs.Answers.{Answer, Check, first-failing, granted}
+use Rattle.clauses.specs.Lists.{numbers, each, those}
+use Rattle.clauses.specs.Answers.{granted}
 use Rattle.clauses.proofs.Satisfaction.{all-of-member, those-member, those-pass, of-those}
-use Rattle.clauses.proofs.Answers.{refusing, all-pass-if-yes, first-failing-passed}
+use Rattle.clauses.proofs.Answers.{all-pass-if-yes, first-failing-passed, number-of}
 use Rattle.meaning.specs.Problem.{Problem}
-use Rattle.meaning.specs.Witnesses.{byte, shape, Witness, byte-checks, reset-checks, loop-checks, formula-check, judge-formula, judge-run, judge-bytes, all-bits, candidates, witnesses}
+use Rattle.meaning.specs.Witnesses.{byte, Witness, all-bits, candidates}
+use Rattle.meaning.specs.Calls.{judge-bytes, witnesses}
 use Rattle.meaning.proofs.Numbers.{member-of-numbers, numbers-bounds}
 use Rattle.pairing.specs.Bounds.{Once}
-use Rattle.pairing.proofs.Witnesses.{byte-checks-refusing, run-checks-refusing, accepted-is-witness}
+use Rattle.pairing.proofs.Witnesses.{all-checks, judged-by-all, all-checks-refusing, accepted-is-witness}
 
 -- ════════ The judge's yes ════════
 
--- Checks whose answer is yes give the answer of what comes after them.
-after-if-yes : (cs : List Check) (after : Answer) → all-of refusing cs ≡ true → first-failing cs after .number ≡ 0
-    → first-failing cs after ≡ after
-after-if-yes cs after r e = first-failing-passed cs after (all-pass-if-yes cs after r e)
-
 granted-if-yes : (p : Problem) (bs : List ℕ) → judge-bytes p bs .number ≡ 0 → judge-bytes p bs ≡ granted 0
-unfolding judge-bytes judge-run judge-formula
 granted-if-yes p bs e =
-    let to-run = after-if-yes (byte-checks p bs) (judge-run p bs) (byte-checks-refusing p bs) e in
-    let run-yes : judge-run p bs .number ≡ 0 = rw to-run at e in
-    let to-formula = after-if-yes (reset-checks p bs ++ loop-checks p bs (shape bs)) (judge-formula p bs) (run-checks-refusing p bs) run-yes in
-    let formula-yes : judge-formula p bs .number ≡ 0 = rw to-formula at run-yes in
-    to-run ∙ to-formula ∙ after-if-yes (formula-check p bs ∷ []) (granted 0) refl formula-yes
+    let yes = number-of (sym (judged-by-all p bs)) ∙ e in
+    judged-by-all p bs ∙ first-failing-passed (all-checks p bs) (granted 0) (all-pass-if-yes (all-checks p bs) (granted 0) (all-checks-refusing p bs) yes)
 
 -- ════════ Members ════════
 

@@ -1,5 +1,5 @@
 -- A witness at bound k gives one at bound k + 1, and so at every larger bound. Assumes nothing.
-use mathlib.Core.Path.{_≡_, refl, sym, _∙_, ap, subst, fun-ext}
+use mathlib.Core.Path.{_≡_, refl, sym, _∙_, ap, ap₂, subst, fun-ext}
 use mathlib.Core.Logic.{_⊎_, inl, inr}
 use mathlib.Core.Bool.{Bool, true, false, _&&_}
 use mathlib.Core.List.{List, _∷_, _++_}
@@ -9,14 +9,13 @@ use native.Mathlib.Decide.{decLe}
 use native.Mathlib.Numerals.{add-one, one-add}
 use native.Mathlib.Omega.{arith}
 use borrow.Author.Tests.{leb-true}
-use lib.Dec.{ltb}
+use lib.Dec.{leb}
 use lib.ListN.{length, take, drop, replicate, length-append, length-take, length-drop, length-replicate, getD-replicate, List·getD-append}
 use lib.Seq.{take-append-le, drop-append-le, take-all, drop-at, drop-drop, getD-take, getD-drop, getD-append-add}
-use Rattle.clauses.specs.Lists.{numbers}
 use Rattle.meaning.specs.Problem.{Problem}
-use Rattle.meaning.specs.Runs.{Position, values, next-values}
+use Rattle.meaning.specs.Runs.{Position, literal-value, values, next-values}
 use Rattle.meaning.specs.Formulas.{Formula, atom, both, either, next, until, release, formula, Holds, True}
-use Rattle.meaning.specs.Bounded.{prefix, looped, until-over, release-over, bounded-value}
+use Rattle.meaning.specs.Bounded.{prefix, looped, until-for, release-for, prefix-value}
 use Rattle.meaning.specs.Witnesses.{witness-length, byte, shape-of, bits, first-latches, inputs-at, position, rows, Closes, lasso-path, Shows, Witness}
 use Rattle.pairing.specs.Bounds.{at-bound}
 use Rattle.pairing.proofs.UntilOnLassos.{after-cases, looped-within}
@@ -26,31 +25,21 @@ use Rattle.pairing.proofs.Runs.{position-first, position-inputs, positi
 
 -- ════════ A prefix looks at its own positions ════════
 
-module _ (k : ℕ) (f f′ g g′ : ℕ → Bool) (same-f : (m : ℕ) → m ≤ k → f m ≡ f′ m)
-    (same-g : (m : ℕ) → m ≤ k → g m ≡ g′ m) (end : Bool) where
-  until-agrees : (n i : ℕ) → i + n ≤ suc k → until-over f g end (numbers i n) ≡ until-over f′ g′ end (numbers i n)
-  until-agrees zero i h = refl
-  until-agrees (suc n) i h = rw (same-f i (omega arith), same-g i (omega arith), until-agrees n (suc i) (omega arith))
-
-  release-agrees : (n i : ℕ) → i + n ≤ suc k → release-over f g end (numbers i n) ≡ release-over f′ g′ end (numbers i n)
-  release-agrees zero i h = refl
-  release-agrees (suc n) i h = rw (same-f i (omega arith), same-g i (omega arith), release-agrees n (suc i) (omega arith))
-
 module _ (k : ℕ) (rows rows′ : ℕ → List Bool) (agree : (t : ℕ) → t ≤ k → rows t ≡ rows′ t) where
   -- Rows that agree on 0..k give one value of the prefix.
-  pub prefix-value-agrees : (f : Formula) (i : ℕ) → i ≤ k → bounded-value prefix k rows f i ≡ bounded-value prefix k rows′ f i
-  prefix-value-agrees (atom x) i h = rw (agree i h)
-  prefix-value-agrees (both f g) i h = rw (prefix-value-agrees f i h, prefix-value-agrees g i h)
-  prefix-value-agrees (either f g) i h = rw (prefix-value-agrees f i h, prefix-value-agrees g i h)
-  prefix-value-agrees (next f) i h = go (ltb i k) refl (prefix-value-agrees f (suc i))
+  pub prefix-value-agrees : (f : Formula) (i : ℕ) → prefix-value k rows f i ≡ prefix-value k rows′ f i
+  prefix-value-agrees (atom x) i = go (leb i k) refl
     where
-      go : {a c : Bool} (b : Bool) → ltb i k ≡ b → (suc i ≤ k → a ≡ c) → b && a ≡ b && c
-      go true e later = later (leb-true (suc i) k e)
-      go false e later = refl
-  prefix-value-agrees (until f g) i h =
-      until-agrees k _ _ _ _ (prefix-value-agrees f) (prefix-value-agrees g) false (suc k - i) i (omega arith)
-  prefix-value-agrees (release f g) i h =
-      release-agrees k _ _ _ _ (prefix-value-agrees f) (prefix-value-agrees g) false (suc k - i) i (omega arith)
+      go : (b : Bool) → leb i k ≡ b → b && literal-value (rows i) x ≡ b && literal-value (rows′ i) x
+      go true e = rw (agree i (leb-true i k e))
+      go false e = refl
+  prefix-value-agrees (both f g) i = rw (prefix-value-agrees f i, prefix-value-agrees g i)
+  prefix-value-agrees (either f g) i = rw (prefix-value-agrees f i, prefix-value-agrees g i)
+  prefix-value-agrees (next f) i = rw (prefix-value-agrees f (suc i))
+  prefix-value-agrees (until f g) i =
+      ap₂ (λ a b. until-for a b (suc k - i) i) (fun-ext (prefix-value-agrees f)) (fun-ext (prefix-value-agrees g))
+  prefix-value-agrees (release f g) i =
+      ap₂ (λ a b. release-for a b (suc k - i) i) (fun-ext (prefix-value-agrees f)) (fun-ext (prefix-value-agrees g))
 
 -- ════════ One position more ════════
 
@@ -157,8 +146,8 @@ module _ (p : Problem) (bs : List ℕ) (w : Witness p bs) where
   longer-prefix-witness shown =
       longer-from p bs (w .length-right) 0 zeros fits w zero-le
       (λ i h. rw (getD-replicate {A = ℕ} (p .inputs) i 0 0 (omega (arith, fits))) zero-le)
-      (longer-prefix (p .bound) (rows q′ cs′) (formula q′) 0 zero-le
-      (prefix-value-agrees (p .bound) (rows q′ cs′) (rows p bs) agree (formula q′) 0 zero-le ∙ rw same-formula shown))
+      (longer-prefix (p .bound) (rows q′ cs′) (formula q′) 0
+      (prefix-value-agrees (p .bound) (rows q′ cs′) (rows p bs) agree (formula q′) 0 ∙ rw same-formula shown))
     where
       zeros : List ℕ
       zeros = replicate (p .inputs) 0

@@ -10,7 +10,7 @@ use native.Mathlib.Omega.{arith}
 use borrow.Author.Tests.{leb-true, le-leb, lt-leb}
 use lib.Dec.{leb}
 use Rattle.clauses.specs.Lists.{numbers}
-use Rattle.meaning.specs.Bounded.{until-over, release-over}
+use Rattle.meaning.specs.LassoValue.{until-over, release-over}
 use Rattle.pairing.specs.NodeLaws.{at-next}
 
 -- ════════ The next value ════════

@@ -8,11 +8,11 @@ use lib.ListN.{length}
 use Rattle.clauses.specs.Lists.{some-of, each}
 use Rattle.clauses.specs.Clauses.{Clause, Assignment, Satisfies, literal-true}
 use Rattle.meaning.specs.Problem.{Problem, Node, node, atom, both, either, next, until, release}
-use Rattle.meaning.specs.Check.{Proper, NodeProper}
+use Rattle.meaning.specs.Proper.{Proper, NodeProper}
 use Rattle.meaning.specs.Cnf.{true-literal, positions, selector, P-clauses, Q-clauses, E-clauses, E-closed, node-clauses, nodes-item}
 use Rattle.pairing.specs.NodeLaws.{at-next, op-value, Q-value}
 use Rattle.pairing.specs.ModelLaws.{Reading, reading, row}
-use Rattle.pairing.proofs.Forms.{equal-form-is, and-form-is, or-form-is, until-form-is, release-form-is, equal-where-is, some-where-is}
+use Rattle.pairing.proofs.Forms.{equal-form-is, and-form-is, or-form-is, until-form-is, release-form-is, guarded-form-is, some-where-is}
 use Rattle.pairing.proofs.Readings.{literal-at-reads, selector-reads, P-reads, P-next-reads, Q-reads, Q-next-reads, E-reads, true-reads, false-reads, left-reads}
 use Rattle.pairing.proofs.ItemsAsLaws.{append-is, each-below-is, each-up-to-is}
 
@@ -70,7 +70,7 @@ module _ (p : Problem) (a : Assignment) (truth : literal-true a true-literal ≡
 
   E-part-is : Satisfies a (E-part p n)
       ↔ ((l : ℕ) → l ≤ p .bound → reading p a .chosen l ≡ true → reading p a .E n ≡ reading p a .Q n l)
-  E-part-is = each-up-to-is a _ (p .bound) (λ l h. equal-where-is (selector-reads p a l) (E-reads p a n) (Q-reads p a n _ l h))
+  E-part-is = each-up-to-is a _ (p .bound) (λ l h. guarded-form-is (selector-reads p a l) (E-reads p a n) (Q-reads p a n _ l h))
 
   pub E-closed-is : Satisfies a (E-closed p n ∷ []) ↔ (reading p a .E n ≡ true → some-of (reading p a .chosen) (positions p) ≡ true)
   E-closed-is = some-where-is (selector p) (positions p) (E-reads p a n)

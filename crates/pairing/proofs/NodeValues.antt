@@ -1,27 +1,26 @@
 -- The bounded meaning satisfies the laws of the node variables, and these leave no other values. Assumes nothing.
 use mathlib.Core.Path.{_≡_, refl, sym, _∙_, ap, fun-ext, subst}
 use mathlib.Core.Logic.{_⊎_, inl, inr}
-use mathlib.Core.Bool.{Bool, true, false, _&&_, _||_, cond}
+use mathlib.Core.Bool.{Bool, true, false, _&&_, _||_}
 use mathlib.Core.List.{List, []}
-use Prim.Native.Nat.{ℕ, zero, suc, _-_, _≤_, _<_, zero-le, suc-le-suc, _+_}
-use native.Mathlib.Nat.{eq-or-lt-of-le, le-of-suc-le-suc}
-use native.Mathlib.Numerals.{add-one}
+use Prim.Native.Nat.{ℕ, zero, suc, _-_, _≤_, _<_, zero-le, _+_}
+use native.Mathlib.Nat.{le-refl, eq-or-lt-of-le, le-of-suc-le-suc}
 use native.Mathlib.Omega.{arith}
-use lib.Dec.{leb}
-use lib.ListN.{length, getD}
+use lib.ListN.{length}
 use Rattle.clauses.specs.Lists.{numbers}
 use Rattle.meaning.specs.Problem.{Problem, Left, Node, node, constant, child, atom, both, either, next, until, release}
-use Rattle.meaning.specs.Check.{LeftProper, NodeProper, Proper}
-use Rattle.meaning.specs.Runs.{Position, values}
+use Rattle.meaning.specs.Proper.{LeftProper, NodeProper, Proper}
 use Rattle.meaning.specs.Formulas.{Formula, left-tree, tree-of, trees-after}
-use Rattle.meaning.specs.Bounded.{Shape, prefix, lasso, onward, visits, until-over, release-over, release-end, next-in, bounded-value}
+use Rattle.meaning.specs.Bounded.{Shape, prefix, lasso, after, prefix-value}
+use Rattle.meaning.specs.LassoValue.{onward, until-over, release-over, loop-value, bounded-value}
 use Rattle.meaning.specs.Witnesses.{shape-of}
 use Rattle.pairing.specs.NodeLaws.{NodeLaws, left-value, at-next, op-value, Q-end, Q-value, E-value}
 use Rattle.pairing.proofs.Trees.{tree, tree-unfolds}
-use Rattle.pairing.proofs.NextValues.{at-next-inside, at-next-last, at-next-same, same-going-down, until-to-last, release-to-last}
+use Rattle.pairing.proofs.Prefixes.{up-to-inside, past-k-false, until-unfolds, release-unfolds}
+use Rattle.pairing.proofs.NextValues.{at-next-inside, at-next-last, at-next-is, at-next-same, same-going-down, until-to-last, release-to-last}
 use Rattle.pairing.proofs.Unrolled.{until-unrolled, until-once-round, release-unrolled, release-once-round}
 use Rattle.pairing.proofs.UntilOnLassos.{after-last, after-inside}
-use Rattle.pairing.proofs.Gates.{with-gates-before}
+use Rattle.pairing.proofs.Gates.{ZeroFalse}
 
 -- The loop starts at 0 to k.
 abbrev pub StartWithin : Shape → Problem → Type 0
@@ -32,53 +31,37 @@ pub start-within : (p : Problem) (b : ℕ) → b ≤ p .bound + 1 → StartWithi
 start-within p zero h = tt
 start-within p (suc l) h = omega arith
 
--- Variable 0 is false at each position.
-abbrev pub ZeroFalse : (ℕ → List Bool) → Type 0
-ZeroFalse rows = (i : ℕ) → getD (rows i) 0 false ≡ false
+-- ════════ One op, on a lasso ════════
 
--- Gates are added behind the values, so the first stays.
-pub values-zero-false : (p : Problem) (path : ℕ → Position) → ZeroFalse (λ t. values p (path t))
-unfolding values
-values-zero-false p path t = with-gates-before (p .gates) _ 0 (suc-le-suc zero-le)
-
--- ════════ One op, on a shape ════════
-
-module _ (p : Problem) where
-  next-law : (s : Shape) (f : ℕ → Bool) (i : ℕ) → i ≤ p .bound → next-in s (p .bound) f i ≡ at-next (p .bound) f (E-value s f) i
-  next-law prefix f i h = rw add-one (go (leb (suc i) (p .bound)))
+module _ (l k : ℕ) (fits : l ≤ k) where
+  next-law : (f : ℕ → Bool) (i : ℕ) → i ≤ k → f (after l k i) ≡ at-next k f (f l) i
+  next-law f i h = go (eq-or-lt-of-le h)
     where
-      go : (b : Bool) → b && f (suc i) ≡ cond b (f (suc i)) false
-      go true = refl
-      go false = refl
-  next-law (lasso l) f i h = go (eq-or-lt-of-le h)
-    where
-      go : (i ≡ p .bound) ⊎ (i < p .bound) → next-in (lasso l) (p .bound) f i ≡ at-next (p .bound) f (f l) i
-      go (inl q) = rw (q, at-next-last (p .bound) f (f l), after-last l (p .bound))
-      go (inr h′) = rw (at-next-inside (p .bound) f (f l) i h′, after-inside l (p .bound) i h′)
+      go : (i ≡ k) ⊎ (i < k) → f (after l k i) ≡ at-next k f (f l) i
+      go (inl q) = rw (q, at-next-last k f (f l), after-last l k)
+      go (inr h′) = rw (at-next-inside k f (f l) i h′, after-inside l k i h′)
 
-  until-law : (s : Shape) → StartWithin s p → (f g : ℕ → Bool) (i : ℕ) → i ≤ p .bound
-      → let u : ℕ → Bool = λ j. until-over f g false (visits s (p .bound) j) in
-      u i ≡ g i || (f i && at-next (p .bound) u (E-value s u) i)
-  until-law prefix w f g i h = until-to-last (p .bound) f g false i h
-  until-law (lasso l) w f g i h =
-      let round : Bool = until-over f g false (numbers l (suc (p .bound) - l)) in
-      until-unrolled f g l (p .bound) w i h
-      ∙ until-to-last (p .bound) f g round i h
+  until-law : (f g : ℕ → Bool) (i : ℕ) → i ≤ k
+      → let u : ℕ → Bool = λ j. until-over f g false (onward l k (suc k) j) in
+      u i ≡ g i || (f i && at-next k u (u l) i)
+  until-law f g i h =
+      let round : Bool = until-over f g false (numbers l (suc k - l)) in
+      until-unrolled f g l k fits i h
+      ∙ until-to-last k f g round i h
       ∙ ap (λ y. g i || (f i && y))
-      (at-next-same (p .bound) _ (λ j. until-over f g false (onward l (p .bound) (suc (p .bound)) j)) round _
-      (λ j h′. sym (until-unrolled f g l (p .bound) w j h′)) (sym (until-once-round f g l (p .bound) w)) i)
+      (at-next-same k _ (λ j. until-over f g false (onward l k (suc k) j)) round _
+      (λ j h′. sym (until-unrolled f g l k fits j h′)) (sym (until-once-round f g l k fits)) i)
 
-  release-law : (s : Shape) → StartWithin s p → (f g : ℕ → Bool) (i : ℕ) → i ≤ p .bound
-      → let r : ℕ → Bool = λ j. release-over f g (release-end s) (visits s (p .bound) j) in
-      r i ≡ g i && (f i || at-next (p .bound) r (E-value s r) i)
-  release-law prefix w f g i h = release-to-last (p .bound) f g false i h
-  release-law (lasso l) w f g i h =
-      let round : Bool = release-over f g true (numbers l (suc (p .bound) - l)) in
-      release-unrolled f g l (p .bound) w i h
-      ∙ release-to-last (p .bound) f g round i h
+  release-law : (f g : ℕ → Bool) (i : ℕ) → i ≤ k
+      → let r : ℕ → Bool = λ j. release-over f g true (onward l k (suc k) j) in
+      r i ≡ g i && (f i || at-next k r (r l) i)
+  release-law f g i h =
+      let round : Bool = release-over f g true (numbers l (suc k - l)) in
+      release-unrolled f g l k fits i h
+      ∙ release-to-last k f g round i h
       ∙ ap (λ y. g i && (f i || y))
-      (at-next-same (p .bound) _ (λ j. release-over f g true (onward l (p .bound) (suc (p .bound)) j)) round _
-      (λ j h′. sym (release-unrolled f g l (p .bound) w j h′)) (sym (release-once-round f g l (p .bound) w)) i)
+      (at-next-same k _ (λ j. release-over f g true (onward l k (suc k) j)) round _
+      (λ j h′. sym (release-unrolled f g l k fits j h′)) (sym (release-once-round f g l k fits)) i)
 
 -- ════════ The tables ════════
 
@@ -115,21 +98,51 @@ module _ (p : Problem) (rows : ℕ → List Bool) where
   second-law s (release a b) n i h = release-to-last (p .bound) (left-value (P-of p s rows) a) (P-of p s rows b) true i h
 
 module _ (p : Problem) (rows : ℕ → List Bool) (zero-false : ZeroFalse rows) where
-  -- A constant on the left is the literal 1 or 0.
-  left-is : (s : Shape) (a : Left) (i : ℕ) → bounded-value s (p .bound) rows (left-tree (trees-after [] (p .nodes)) a) i ≡ left-value (P-of p s rows) a i
-  left-is s (constant true) i = rw (zero-false i)
-  left-is s (constant false) i = zero-false i
-  left-is s (child c) i = refl
+  abbrev left-in : Left → Formula
+  left-in a = left-tree (trees-after [] (p .nodes)) a
 
-  tree-law : (s : Shape) → StartWithin s p → (x : Node) (i : ℕ) → i ≤ p .bound
-      → let f : ℕ → Bool = bounded-value s (p .bound) rows (tree-of (trees-after [] (p .nodes)) x) in
-      f i ≡ op-value (p .bound) rows (P-of p s rows) (E-of p s rows) x i (at-next (p .bound) f (E-value s f) i)
-  tree-law s w (atom x) i h = refl
-  tree-law s w (both a b) i h = refl
-  tree-law s w (either a b) i h = refl
-  tree-law s w (next a) i h = next-law p s (P-of p s rows a) i h
-  tree-law s w (until a b) i h = rw (← left-is s a i) (until-law p s w _ (P-of p s rows b) i h)
-  tree-law s w (release a b) i h = rw (← left-is s a i) (release-law p s w _ (P-of p s rows b) i h)
+  -- A constant on the left is the literal 1 or 0; on a prefix that is so to k.
+  left-on-prefix : (a : Left) (i : ℕ) → i ≤ p .bound → prefix-value (p .bound) rows (left-in a) i ≡ left-value (P-of p prefix rows) a i
+  left-on-prefix (constant true) i h = up-to-inside (p .bound) i _ h ∙ rw (zero-false i)
+  left-on-prefix (constant false) i h = up-to-inside (p .bound) i _ h ∙ zero-false i
+  left-on-prefix (child c) i h = refl
+
+  left-on-lasso : (l : ℕ) (a : Left) (i : ℕ) → loop-value l (p .bound) rows (left-in a) i ≡ left-value (P-of p (lasso l) rows) a i
+  left-on-lasso l (constant true) i = rw (zero-false i)
+  left-on-lasso l (constant false) i = zero-false i
+  left-on-lasso l (child c) i = refl
+
+  -- On a prefix the next value past k is false.
+  next-on-prefix : (f : Formula) (i : ℕ) → i ≤ p .bound
+      → prefix-value (p .bound) rows f (suc i) ≡ at-next (p .bound) (prefix-value (p .bound) rows f) false i
+  next-on-prefix f = at-next-is (p .bound) (prefix-value (p .bound) rows f) false (past-k-false (p .bound) rows f (suc (p .bound)) (le-refl _))
+
+  abbrev TreeLaw : Shape → Node → Type 0
+  TreeLaw s x =
+      let f : ℕ → Bool = bounded-value s (p .bound) rows (tree-of (trees-after [] (p .nodes)) x) in
+      (i : ℕ) → i ≤ p .bound → f i ≡ op-value (p .bound) rows (P-of p s rows) (E-of p s rows) x i (at-next (p .bound) f (E-value s f) i)
+
+  prefix-law : (x : Node) → TreeLaw prefix x
+  prefix-law (atom x) i h = up-to-inside (p .bound) i _ h
+  prefix-law (both a b) i h = up-to-inside (p .bound) i _ h
+  prefix-law (either a b) i h = up-to-inside (p .bound) i _ h
+  prefix-law (next a) i h = up-to-inside (p .bound) i _ h ∙ next-on-prefix (tree p a) i h
+  prefix-law (until a b) i h =
+      rw (← left-on-prefix a i h, ← next-on-prefix (tree-of (trees-after [] (p .nodes)) (until a b)) i h) (until-unfolds (p .bound) rows (left-in a) (tree p b) i h)
+  prefix-law (release a b) i h =
+      rw (← left-on-prefix a i h, ← next-on-prefix (tree-of (trees-after [] (p .nodes)) (release a b)) i h) (release-unfolds (p .bound) rows (left-in a) (tree p b) i h)
+
+  loop-law : (l : ℕ) → l ≤ p .bound → (x : Node) → TreeLaw (lasso l) x
+  loop-law l w (atom x) i h = refl
+  loop-law l w (both a b) i h = refl
+  loop-law l w (either a b) i h = refl
+  loop-law l w (next a) i h = next-law l (p .bound) w (P-of p (lasso l) rows a) i h
+  loop-law l w (until a b) i h = rw (← left-on-lasso l a i) (until-law l (p .bound) w (loop-value l (p .bound) rows (left-in a)) (P-of p (lasso l) rows b) i h)
+  loop-law l w (release a b) i h = rw (← left-on-lasso l a i) (release-law l (p .bound) w (loop-value l (p .bound) rows (left-in a)) (P-of p (lasso l) rows b) i h)
+
+  tree-law : (s : Shape) → StartWithin s p → (x : Node) → TreeLaw s x
+  tree-law prefix w = prefix-law
+  tree-law (lasso l) w = loop-law l w
 
   -- At the loop's start both passes agree.
   start-law : (l : ℕ) → l ≤ p .bound → (x : Node) (n : ℕ) → tree p n ≡ tree-of (trees-after [] (p .nodes)) x
@@ -139,12 +152,12 @@ module _ (p : Problem) (rows : ℕ → List Bool) (zero-false : ZeroFalse rows) 
   start-law l w (either a b) n e = refl
   start-law l w (next a) n e = refl
   start-law l w (until a b) n e =
-      ap (λ t. bounded-value (lasso l) (p .bound) rows t l) e
-      ∙ ap (λ f. until-over f (P-of p (lasso l) rows b) false (onward l (p .bound) (suc (p .bound)) l)) (fun-ext (left-is (lasso l) a))
+      ap (λ t. loop-value l (p .bound) rows t l) e
+      ∙ ap (λ f. until-over f (P-of p (lasso l) rows b) false (onward l (p .bound) (suc (p .bound)) l)) (fun-ext (left-on-lasso l a))
       ∙ until-once-round (left-value (P-of p (lasso l) rows) a) (P-of p (lasso l) rows b) l (p .bound) w
   start-law l w (release a b) n e =
-      ap (λ t. bounded-value (lasso l) (p .bound) rows t l) e
-      ∙ ap (λ f. release-over f (P-of p (lasso l) rows b) true (onward l (p .bound) (suc (p .bound)) l)) (fun-ext (left-is (lasso l) a))
+      ap (λ t. loop-value l (p .bound) rows t l) e
+      ∙ ap (λ f. release-over f (P-of p (lasso l) rows b) true (onward l (p .bound) (suc (p .bound)) l)) (fun-ext (left-on-lasso l a))
       ∙ release-once-round (left-value (P-of p (lasso l) rows) a) (P-of p (lasso l) rows b) l (p .bound) w
 
   end-law : (s : Shape) → StartWithin s p → (x : Node) (n : ℕ) → tree p n ≡ tree-of (trees-after [] (p .nodes)) x

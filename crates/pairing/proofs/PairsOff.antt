@@ -5,7 +5,7 @@ use mathlib.Core.List.{List}
 use Prim.Native.Nat.{ℕ}
 use Rattle.clauses.specs.Clauses.{Assignment}
 use Rattle.meaning.specs.Problem.{Problem}
-use Rattle.meaning.specs.Check.{Proper}
+use Rattle.meaning.specs.Proper.{Proper}
 use Rattle.meaning.specs.Witnesses.{Witness}
 use Rattle.pairing.specs.ModelLaws.{Reading, ModelLaws, reading}
 use Rattle.pairing.specs.Layout.{layout, Agree}

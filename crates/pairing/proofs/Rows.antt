@@ -9,7 +9,7 @@ use lib.ListN.{length, getD}
 use lib.Seq.{ext-getD}
 use Rattle.clauses.specs.Lists.{numbers}
 use Rattle.meaning.specs.Problem.{Problem, W, latch-variable, gate-variable, latch, gate, Latch}
-use Rattle.meaning.specs.Check.{Proper}
+use Rattle.meaning.specs.Proper.{Proper}
 use Rattle.meaning.specs.Runs.{Position, literal-value, gate-value, meets-reset, values, next-values, StartsRight}
 use Rattle.meaning.specs.Witnesses.{witness-length, first-latches, inputs-at, position, rows, Closes}
 use Rattle.meaning.proofs.Numbers.{length-map-numbers, getD-map-numbers, getD-map-within}

@@ -6,7 +6,7 @@ use Prim.Native.Nat.{ℕ, _≤_, _<_}
 use native.Mathlib.Omega.{arith}
 use lib.ListN.{length}
 use Rattle.meaning.specs.Problem.{Problem, Node, node, atom, both, either, next, until, release}
-use Rattle.meaning.specs.Check.{Proper}
+use Rattle.meaning.specs.Proper.{Proper}
 use Rattle.meaning.specs.Bounded.{Shape}
 use Rattle.pairing.specs.NodeLaws.{NodeLaws, at-next, op-value, Q-value}
 use Rattle.pairing.proofs.NextValues.{at-next-same}

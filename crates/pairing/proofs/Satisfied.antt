@@ -2,7 +2,7 @@
 use mathlib.Core.Logic.{_↔_}
 use Rattle.clauses.specs.Clauses.{Assignment, Satisfies}
 use Rattle.meaning.specs.Problem.{Problem}
-use Rattle.meaning.specs.Check.{Proper}
+use Rattle.meaning.specs.Proper.{Proper}
 use Rattle.meaning.specs.Cnf.{cnf}
 use Rattle.meaning.proofs.ItemByItem.{_and_, satisfied-by-items}
 use Rattle.pairing.specs.ModelLaws.{ModelLaws, reading}

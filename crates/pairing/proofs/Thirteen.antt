@@ -4,8 +4,8 @@ use mathlib.Core.List.{List, map, List·Memᴰ, List·Memᴰ·head, List·Memᴰ
 use Prim.Native.Nat.{ℕ}
 use lib.ListN.{length, getD, drop}
 use Rattle.meaning.specs.Problem.{Problem, problem}
-use Rattle.meaning.specs.Witnesses.{witnesses}
 use Rattle.meaning.specs.Cases.{Case, thirteen-cases, thirteen-counts}
+use Rattle.meaning.specs.Calls.{witnesses}
 use Rattle.pairing.specs.Bounds.{Counted}
 use Rattle.pairing.proofs.ListedWitnesses.{listed-is-witness, listed-once}
 

@@ -9,7 +9,7 @@ use lib.ListN.{length, getD, length-append, List·getD-append}
 use lib.Seq.{getD-at}
 use Rattle.meaning.specs.Problem as Nodes
 use Rattle.meaning.specs.Problem.{Problem, Left, Node, constant, child, node}
-use Rattle.meaning.specs.Check.{LeftProper, NodeProper, Proper}
+use Rattle.meaning.specs.Proper.{LeftProper, NodeProper, Proper}
 use Rattle.meaning.specs.Formulas.{Formula, atom, left-tree, tree-of, trees-after, formula}
 
 abbrev pub tree : Problem → ℕ → Formula

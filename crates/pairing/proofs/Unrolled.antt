@@ -9,7 +9,8 @@ use native.Mathlib.Decide.{decLe}
 use native.Mathlib.Omega.{arith}
 use Rattle.clauses.specs.Lists.{numbers}
 use Rattle.clauses.proofs.Satisfaction.{one-true, second-true}
-use Rattle.meaning.specs.Bounded.{after, onward, until-over, release-over}
+use Rattle.meaning.specs.Bounded.{after}
+use Rattle.meaning.specs.LassoValue.{onward, until-over, release-over}
 use Rattle.meaning.proofs.Numbers.{numbers-append, member-of-numbers, numbers-bounds}
 use Rattle.pairing.proofs.UntilOnLassos.{release-dual, after-last, after-inside}
 

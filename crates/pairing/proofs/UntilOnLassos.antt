@@ -1,16 +1,16 @@
 -- The unfoldings of U and R over positions in a row, and the endless path of a lasso. Assumes nothing.
 use mathlib.Core.Path.{_≡_, refl, sym, _∙_, ap}
 use mathlib.Core.Logic.{_⊎_, inl, inr}
-use mathlib.Core.Bool.{Bool, true, false, not, _&&_, _||_, false≢true, and-or-distrib-left}
+use mathlib.Core.Bool.{Bool, true, false, not, _&&_, _||_, false≢true}
 use mathlib.Core.List.{List, [], _∷_}
 use Prim.Native.Nat.{ℕ, zero, suc, _+_, _-_, _<_, _≤_, zero-le, suc-le-suc}
 use native.Mathlib.Nat.{le-of-suc-le-suc, not-suc-le-zero, le-refl, add-zero, add-suc, eq-or-lt-of-le}
 use native.Mathlib.Decide.{decLe}
 use native.Mathlib.Omega.{arith}
 use borrow.Author.Tests.{not-true, ne-eqb}
-use Rattle.clauses.specs.Lists.{numbers}
 use Rattle.clauses.proofs.Satisfaction.{both-true, first-true, second-true, one-true, or-first, or-second, not-both, false-if-not-true, eqb-self}
-use Rattle.meaning.specs.Bounded.{after, looped, onward, until-over, release-over}
+use Rattle.meaning.specs.Bounded.{after, looped, until-for}
+use Rattle.meaning.specs.LassoValue.{onward, until-over, release-over}
 
 -- ════════ U over positions in a row ════════
 
@@ -36,19 +36,19 @@ module _ (f g : ℕ → Bool) where
   until-later i j u = (rw shifted (u .0), λ m h. rw shifted (u .1 (suc m) (suc-le-suc h)))
 
   -- The unfolding over n positions is true where g comes within them, with f before.
-  pub until-found : (n i : ℕ) → until-over f g false (numbers i n) ≡ true → (j : ℕ) × (j < n) × Until f g i j
+  pub until-found : (n i : ℕ) → until-for f g n i ≡ true → (j : ℕ) × (j < n) × Until f g i j
   until-found zero i e = absurd (false≢true e)
   until-found (suc n) i e = go (one-true (g i) _ e) (until-found n (suc i))
     where
-      go : (g i ≡ true) ⊎ (f i && until-over f g false (numbers (suc i) n) ≡ true)
-          → (until-over f g false (numbers (suc i) n) ≡ true → (j : ℕ) × (j < n) × Until f g (suc i) j)
+      go : (g i ≡ true) ⊎ (f i && until-for f g n (suc i) ≡ true)
+          → (until-for f g n (suc i) ≡ true → (j : ℕ) × (j < n) × Until f g (suc i) j)
           → (j : ℕ) × (j < suc n) × Until f g i j
       go (inl p) later = (0, suc-le-suc zero-le, until-now i p)
       go (inr q) later =
           let w = later (second-true (f i) _ q) in
           (suc (w .0), suc-le-suc (w .1), until-next i (w .0) (first-true (f i) _ q) (w .2))
 
-  pub until-if-found : (n i j : ℕ) → j < n → Until f g i j → until-over f g false (numbers i n) ≡ true
+  pub until-if-found : (n i j : ℕ) → j < n → Until f g i j → until-for f g n i ≡ true
   until-if-found zero i j h u = absurd (not-suc-le-zero h)
   until-if-found (suc n) i zero h u = or-first _ (rw add-zero at (u .0))
   until-if-found (suc n) i (suc j) h u =
@@ -69,11 +69,6 @@ module _ (f g : ℕ → Bool) where
       law true false c = refl
       law false true c = refl
       law false false c = refl
-
-  -- With false at the end, R is U of g and of both.
-  pub release-as-until : (is : List ℕ) → release-over f g false is ≡ until-over g (λ i. g i && f i) false is
-  release-as-until [] = refl
-  release-as-until (i ∷ is) = rw (release-as-until is, and-or-distrib-left (g i))
 
 -- The first below n at which f holds, or none.
 pub first-or-none : (f : ℕ → Bool) (n : ℕ)
@@ -150,10 +145,9 @@ along l k f t = f (looped l k t)
 
 module _ (l k : ℕ) (f g : ℕ → Bool) where
   -- The unfolding from a place of the path goes along the path.
-  until-onward : (end : Bool) (n t : ℕ)
-      → until-over f g end (onward l k n (looped l k t)) ≡ until-over (along l k f) (along l k g) end (numbers t n)
-  until-onward end zero t = refl
-  until-onward end (suc n) t = rw (until-onward end n (suc t))
+  until-onward : (n t : ℕ) → until-over f g false (onward l k n (looped l k t)) ≡ until-for (along l k f) (along l k g) n t
+  until-onward zero t = refl
+  until-onward (suc n) t = rw (until-onward n (suc t))
 
 module _ (l k : ℕ) (fits : l ≤ k) (f g : ℕ → Bool) where
   -- What comes at all comes within k + 1 positions.
@@ -179,14 +173,14 @@ module _ (l k : ℕ) (fits : l ≤ k) (f g : ℕ → Bool) where
   pub until-round : (t : ℕ) → until-over f g false (onward l k (suc k) (looped l k t)) ≡ true
       → (j : ℕ) × Until (along l k f) (along l k g) t j
   until-round t e =
-      let w = until-found (along l k f) (along l k g) (suc k) t (sym (until-onward l k f g false (suc k) t) ∙ e) in
+      let w = until-found (along l k f) (along l k g) (suc k) t (sym (until-onward l k f g (suc k) t) ∙ e) in
       (w .0, w .2)
 
   pub until-if-round : (t j : ℕ) → Until (along l k f) (along l k g) t j
       → until-over f g false (onward l k (suc k) (looped l k t)) ≡ true
   until-if-round t j u =
       let w = sooner j t j (le-refl j) u in
-      until-onward l k f g false (suc k) t ∙ until-if-found (along l k f) (along l k g) (suc k) t (w .0) (w .1) (w .2)
+      until-onward l k f g (suc k) t ∙ until-if-found (along l k f) (along l k g) (suc k) t (w .0) (w .1) (w .2)
 
 -- g holds j positions after i, or f before.
 abbrev pub Release : (ℕ → Bool) → (ℕ → Bool) → ℕ → ℕ → Type 0

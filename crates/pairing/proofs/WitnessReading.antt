@@ -9,10 +9,11 @@ use lib.ListN.{length, getD}
 use lib.Seq.{ext-getD}
 use Rattle.clauses.proofs.Satisfaction.{eqb-self}
 use Rattle.meaning.specs.Problem.{Problem, W, latch-variable, latch}
-use Rattle.meaning.specs.Check.{Proper}
+use Rattle.meaning.specs.Proper.{Proper}
 use Rattle.meaning.specs.Runs.{literal-value, next-values, StartsRight}
 use Rattle.meaning.specs.Formulas.{formula}
-use Rattle.meaning.specs.Bounded.{Shape, prefix, lasso, bounded-value}
+use Rattle.meaning.specs.Bounded.{Shape, prefix, lasso}
+use Rattle.meaning.specs.LassoValue.{bounded-value}
 use Rattle.meaning.specs.Witnesses.{byte, shape, first-latches, position, rows, Closes, Shows, Witness}
 use Rattle.meaning.proofs.Numbers.{getD-map-numbers}
 use Rattle.pairing.specs.NodeLaws.{NodeLaws}
@@ -23,7 +24,8 @@ use Rattle.pairing.proofs.Meaning.{lasso-value}
 use Rattle.pairing.proofs.Runs.{length-next-values, length-latches}
 use Rattle.pairing.proofs.Witnesses.{value-if-shows}
 use Rattle.pairing.proofs.Trees.{formula-is}
-use Rattle.pairing.proofs.NodeValues.{StartWithin, values-zero-false, P-of, Q-of, E-of, node-laws, node-laws-determine, start-within}
+use Rattle.pairing.proofs.Gates.{values-zero-false}
+use Rattle.pairing.proofs.NodeValues.{StartWithin, P-of, Q-of, E-of, node-laws, node-laws-determine, start-within}
 use Rattle.pairing.proofs.SameNodes.{node-laws-same}
 use Rattle.pairing.proofs.Bytes.{bytes-length, bytes-start, bytes-bits, bytes-latches}
 use Rattle.pairing.proofs.Rows.{next-value, row-at, rows-of-model, row-of-rows, rows-latches, rows-gate-law, rows-step-law, rows-reset-law, rows-closing-law}

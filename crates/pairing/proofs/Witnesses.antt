@@ -2,7 +2,7 @@
 use mathlib.Core.Path.{_≡_, refl, sym, _∙_}
 use mathlib.Core.Logic.{_↔_}
 use mathlib.Core.Bool.{Bool, true, false, Bool·beq}
-use mathlib.Core.List.{List, [], _∷_, _++_, map}
+use mathlib.Core.List.{List, [], _∷_, map}
 use Prim.Native.Nat.{ℕ, zero, suc, _+_, _<_, _≤_, zero-le, suc-le-suc}
 use native.Mathlib.Nat.{le-of-suc-le-suc, not-suc-le-zero, add-zero, zero-add}
 use native.Mathlib.Omega.{arith}
@@ -10,16 +10,19 @@ use borrow.Author.Tests.{leb-true, le-leb, eqb-true}
 use lib.Dec.{leb, eqb}
 use lib.ListN.{length, getD}
 use lib.Seq.{ext-getD}
-use Rattle.clauses.specs.Lists.{numbers, numbered, all-of}
-use Rattle.clauses.specs.Answers.{Check, check, granted}
-use Rattle.clauses.proofs.Satisfaction.{both-true, first-true, second-true, eqb-self, all-of-append, all-of-first, all-of-second, all-of-numbered, all-of-map}
-use Rattle.clauses.proofs.Answers.{passing, refusing, first-failing-passed, all-pass-if-granted, after-if-granted}
+use Rattle.clauses.specs.Lists.{numbers, numbered, all-of, joined}
+use Rattle.clauses.specs.Answers.{Check, check, first-failing, granted}
+use Rattle.clauses.proofs.Satisfaction.{both-true, first-true, second-true, eqb-self, all-of-numbered, all-of-map}
+use Rattle.clauses.proofs.Answers.{passing, refusing, first-failing-passed, first-failing-joined, all-pass-if-granted}
 use Rattle.meaning.specs.Answers.{bad-witness, against-reset, open-loop}
 use Rattle.meaning.specs.Problem.{Problem, latch}
 use Rattle.meaning.specs.Runs.{next-values, meets-reset, StartsRight}
 use Rattle.meaning.specs.Formulas.{formula}
-use Rattle.meaning.specs.Bounded.{Shape, prefix, lasso, bounded-value}
-use Rattle.meaning.specs.Witnesses.{witness-length, byte, shape, first-latches, position, rows, Closes, Shows, Witness, byte-limit, byte-checks, reset-checks, loop-checks, formula-check, judge-formula, judge-run, judge-bytes}
+use Rattle.meaning.specs.Bounded.{Shape, prefix, lasso}
+use Rattle.meaning.specs.LassoValue.{bounded-value}
+use Rattle.meaning.specs.Witnesses.{witness-length, byte, shape, first-latches, position, rows, Closes, Shows, Witness, byte-limit, byte-checks, reset-checks, loop-checks}
+use Rattle.meaning.specs.Calls.{witness-parts, judge-bytes}
+use Rattle.meaning.proofs.ItemByItem.{_and_, all-of-joined}
 use Rattle.meaning.proofs.Numbers.{all-of-numbers, all-of-numbers-if}
 use Rattle.pairing.proofs.UntilOnLassos.{shifted}
 use Rattle.pairing.proofs.Meaning.{lasso-value}
@@ -40,7 +43,7 @@ each-refusing c [] h = refl
 each-refusing c (i ∷ is) h = both-true (h i) (each-refusing c is h)
 
 module _ (p : Problem) (bs : List ℕ) where
-  pub byte-checks-refusing : all-of refusing (byte-checks p bs) ≡ true
+  byte-checks-refusing : all-of refusing (byte-checks p bs) ≡ true
   byte-checks-refusing = all-of-numbered refusing 0 bs _ (λ i b. refl)
 
   reset-checks-refusing : all-of refusing (reset-checks p bs) ≡ true
@@ -50,31 +53,35 @@ module _ (p : Problem) (bs : List ℕ) where
   loop-checks-refusing prefix = refl
   loop-checks-refusing (lasso l) = each-refusing _ (numbers 0 (length (p .latches))) (λ i. refl)
 
-  pub run-checks-refusing : all-of refusing (reset-checks p bs ++ loop-checks p bs (shape bs)) ≡ true
-  run-checks-refusing =
-      all-of-append refusing (reset-checks p bs) (loop-checks p bs (shape bs))
-      ∙ both-true reset-checks-refusing (loop-checks-refusing (shape bs))
+  -- The judge's checks in one list.
+  abbrev pub all-checks : List Check
+  all-checks = joined (witness-parts p bs)
+
+  pub judged-by-all : judge-bytes p bs ≡ first-failing all-checks (granted 0)
+  unfolding judge-bytes
+  judged-by-all = first-failing-joined (witness-parts p bs) (granted 0)
+
+  pub all-checks-refusing : all-of refusing all-checks ≡ true
+  all-checks-refusing =
+      all-of-joined refusing (witness-parts p bs) .1
+      (byte-checks-refusing and reset-checks-refusing and loop-checks-refusing (shape bs) and refl and tt)
 
   passed-if-granted : judge-bytes p bs ≡ granted 0 → ChecksPassed p bs
-  unfolding judge-bytes judge-run judge-formula
   passed-if-granted e =
-      let run-granted = after-if-granted (byte-checks p bs) (judge-run p bs) byte-checks-refusing e in
-      let run-passes = all-pass-if-granted (reset-checks p bs ++ loop-checks p bs (shape bs)) (judge-formula p bs) run-checks-refusing run-granted in
-      let formula-granted = after-if-granted (reset-checks p bs ++ loop-checks p bs (shape bs)) (judge-formula p bs) run-checks-refusing run-granted in
+      let pass = all-of-joined passing (witness-parts p bs) .0 (all-pass-if-granted all-checks (granted 0) all-checks-refusing (sym judged-by-all ∙ e)) in
       record {
-        bytes-pass = all-pass-if-granted (byte-checks p bs) (judge-run p bs) byte-checks-refusing e;
-        resets-pass = all-of-first passing (reset-checks p bs) (loop-checks p bs (shape bs)) run-passes;
-        loop-passes = all-of-second passing (reset-checks p bs) (loop-checks p bs (shape bs)) run-passes;
-        formula-passes = first-true _ true (all-pass-if-granted (formula-check p bs ∷ []) (granted 0) refl formula-granted);
+        bytes-pass = pass .0;
+        resets-pass = pass .1 .0;
+        loop-passes = pass .1 .1 .0;
+        formula-passes = first-true _ true (pass .1 .1 .1 .0);
       }
 
   granted-if-passed : ChecksPassed p bs → judge-bytes p bs ≡ granted 0
-  unfolding judge-bytes judge-run judge-formula
   granted-if-passed q =
-      first-failing-passed (byte-checks p bs) (judge-run p bs) (q .bytes-pass)
-      ∙ first-failing-passed (reset-checks p bs ++ loop-checks p bs (shape bs)) (judge-formula p bs)
-      (all-of-append passing (reset-checks p bs) (loop-checks p bs (shape bs)) ∙ both-true (q .resets-pass) (q .loop-passes))
-      ∙ first-failing-passed (formula-check p bs ∷ []) (granted 0) (both-true (q .formula-passes) refl)
+      judged-by-all
+      ∙ first-failing-passed all-checks (granted 0)
+      (all-of-joined passing (witness-parts p bs) .1
+      (q .bytes-pass and q .resets-pass and q .loop-passes and both-true (q .formula-passes) refl and tt))
 
 -- ════════ The bytes ════════
 
@@ -136,7 +143,7 @@ module _ (p : Problem) (bs : List ℕ) where
   abbrev loop-check : ℕ → ℕ → Check
   loop-check l i = check (loop-test l i) (open-loop i)
 
-  closes-if-passes : (l : ℕ) → length bs ≡ witness-length p → l ≤ p .bound → all-of passing (loop-checks p bs (lasso l)) ≡ true → Closes p bs l
+  pub closes-if-passes : (l : ℕ) → length bs ≡ witness-length p → l ≤ p .bound → all-of passing (loop-checks p bs (lasso l)) ≡ true → Closes p bs l
   closes-if-passes l right fits e =
       ext-getD false (next-values p (position p bs (p .bound))) (position p bs l .latches)
       (length-next-values p (position p bs (p .bound)) ∙ sym (length-latches p bs right l fits))
@@ -144,7 +151,7 @@ module _ (p : Problem) (bs : List ℕ) where
       (all-of-numbers (loop-test l) (length (p .latches)) (sym (all-of-map passing (loop-check l) (numbers 0 (length (p .latches)))) ∙ e)
       i (rw (length-next-values p (position p bs (p .bound))) at h)))
 
-  passes-if-closes : (l : ℕ) → Closes p bs l → all-of passing (loop-checks p bs (lasso l)) ≡ true
+  pub passes-if-closes : (l : ℕ) → Closes p bs l → all-of passing (loop-checks p bs (lasso l)) ≡ true
   passes-if-closes l e =
       all-of-map passing (loop-check l) (numbers 0 (length (p .latches)))
       ∙ all-of-numbers-if (loop-test l) (length (p .latches)) (λ i h. rw e (beq-is _ (getD (position p bs l .latches) i false) .1 refl))

@@ -5,3 +5,5 @@ pub mod Layout
 pub mod Bytes
 pub mod Bounds
 pub mod Pairs
+pub mod WithoutLoop
+pub mod Refutable

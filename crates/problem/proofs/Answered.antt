@@ -7,9 +7,9 @@ use native.Mathlib.Numerals.{add-one}
 use native.Mathlib.Omega.{arith}
 use denote.Enum.Declared.{tagOf}
 use Rattle.clauses.specs.Lists.{numbers, each}
-use Rattle.clauses.specs.Answers.{Answer, Check, check}
-use Rattle.clauses.proofs.Answers.{first-failing-append}
-use Rattle.meaning.specs.Check.{each-below, first-failing-part}
+use Rattle.clauses.specs.Answers.{Answer, Check, check, first-failing-part}
+use Rattle.clauses.proofs.Answers.{first-failing-append, parts-append}
+use Rattle.meaning.specs.Check.{each-below}
 use Rattle.problem.specs.declared.Refusal.{Refusal}
 use Rattle.problem.specs.declared.check.PartAnswer.{PartAnswer}
 use Rattle.problem.specs.declared.check.PartAnswer.the-variants.{Passed, Refused}
@@ -40,11 +40,6 @@ pub all-pass : Answers ([] ∷ []) Passed
 all-pass = record { answered = λ after. refl }
 
 -- ════════ One part after another ════════
-
-pub parts-append : (xs ys : List (List Check)) (after : Answer)
-    → first-failing-part (xs ++ ys) after ≡ first-failing-part xs (first-failing-part ys after)
-parts-append [] ys after = refl
-parts-append (x ∷ xs) ys after = rw (parts-append xs ys after)
 
 module _ (xs ys : List (List Check)) where
   -- After a pass the later parts give the answer; after a refusal they do not matter.

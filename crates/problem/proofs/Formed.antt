@@ -6,12 +6,14 @@ use Prim.Native.Nat.{ℕ, _+_}
 use native.Mathlib.Omega.{arith}
 use Rattle.clauses.specs.Lists.{all-of, joined}
 use Rattle.clauses.specs.Answers.{Answer, Check, first-failing, granted}
-use Rattle.clauses.proofs.Answers.{passing, number-of, place-of}
+use Rattle.clauses.proofs.Answers.{passing, first-failing-joined, number-of, place-of}
 use Rattle.meaning.specs.Problem as problems
 use Rattle.meaning.specs.Problem.{outline, problem-by, problem}
-use Rattle.meaning.specs.Check.{InLimits, WellFormed, header-checks, limit-checks, outline-parts, problem-checked, check-problem}
+use Rattle.meaning.specs.Check.{header-checks, limit-checks}
+use Rattle.meaning.specs.Proper.{InLimits}
+use Rattle.meaning.specs.Calls.{WellFormed, outline-parts, check-problem}
 use Rattle.meaning.proofs.ItemByItem.{all-of-joined}
-use Rattle.meaning.proofs.Check.{first-failing-joined, first-failing-refused, in-limits-if-pass, check-yes, checked-if-well-formed, not-well-formed, proper-if-well-formed, width-of-words}
+use Rattle.meaning.proofs.Check.{first-failing-refused, in-limits-if-pass, problem-checked, not-well-formed, proper-if-well-formed, width-of-words}
 use Rattle.problem.specs.declared.Outline.{Outline}
 use Rattle.problem.specs.declared.Refusal.{Refusal}
 use Rattle.problem.specs.declared.Checked.{Checked}
@@ -62,7 +64,7 @@ module _ (version : ℕ) (ws : List ℕ) where
   -- ════════ The whole ════════
 
   pub refused-by-opening : {f : Refusal} → Answers (opening version ws) (Refused f) → CheckedAs version ws (Checked.Refused f)
-  unfolding check-problem problem-checked
+  unfolding check-problem
   refused-by-opening a = record { answered = refused-first (opening version ws) (outline-parts (outline version ws) ws) a .answered (granted 0); outlined = tt }
 
   module _ {s : Outline} (passed : Answers (opening version ws) Passed) (is : outline-of s ≡ outline version ws) where
@@ -70,11 +72,11 @@ module _ (version : ℕ) (ws : List ℕ) where
     all b = passed-first (opening version ws) (outline-parts (outline version ws) ws) passed (parts-by ws is b)
 
     pub refused-by-parts : {f : Refusal} → Answers (outline-parts (outline-of s) ws) (Refused f) → CheckedAs version ws (Checked.Refused f)
-    unfolding check-problem problem-checked
+    unfolding check-problem
     refused-by-parts b = record { answered = all b .answered (granted 0); outlined = tt }
 
     pub good-by-parts : Answers (outline-parts (outline-of s) ws) Passed → CheckedAs version ws (Checked.Good s)
-    unfolding check-problem problem-checked problem-in problem
+    unfolding check-problem problem-in problem
     good-by-parts b = record {
       answered = all b .answered (granted 0);
       outlined = record { outline-is = is; problem-is = ap (λ o. problem-by o ws) is };
@@ -84,7 +86,7 @@ module _ (version : ℕ) (ws : List ℕ) where
 
 module _ {version : ℕ} {ws : List ℕ} {s : Outline} (good : CheckedAs version ws (Checked.Good s)) where
   pub well-formed-if-good : WellFormed version ws
-  well-formed-if-good = check-yes version ws .0 (sym (good .answered))
+  well-formed-if-good = sym (good .answered)
 
   pub proper-if-good : ProperIn s ws
   proper-if-good = record {
@@ -97,8 +99,5 @@ module _ {version : ℕ} {ws : List ℕ} {s : Outline} (good : CheckedAs version
 -- A refusal is the answer, whatever would come after the check.
 pub refused-whatever : (version : ℕ) (ws : List ℕ) (f : Refusal) (after : Answer) → refusal-answer f ≡ check-problem version ws
     → refusal-answer f ≡ problem-checked version ws after
-unfolding check-problem
-refused-whatever version ws f after e =
-    e
-    ∙ not-well-formed version ws (granted 0) after
-    (λ w. refusal-not-yes f (number-of (e ∙ checked-if-well-formed version ws (granted 0) w)))
+unfolding check-problem problem-checked
+refused-whatever version ws f after e = e ∙ not-well-formed version ws (granted 0) after (λ w. refusal-not-yes f (number-of (e ∙ w)))

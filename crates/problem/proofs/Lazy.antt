@@ -7,8 +7,8 @@ use Rattle.clauses.specs.Answers.{Answer}
 use Rattle.clauses.proofs.Answers.{number-of, place-of}
 use Rattle.meaning.specs.Limits.{inputs-limit, latches-limit, gates-limit, nodes-limit, bound-limit}
 use Rattle.meaning.specs.Problem.{header-words, problem}
-use Rattle.meaning.specs.Check.{problem-checked, check-problem}
 use Rattle.meaning.specs.Cases.{T-words, H}
+use Rattle.meaning.specs.Calls.{check-problem}
 use Rattle.problem.specs.declared.Outline.{Outline}
 use Rattle.problem.specs.declared.Refusal.{Refusal}
 use Rattle.problem.specs.declared.Refusal.the-variants.{BadLength, BadReset, BadLiteral, BadNode}
@@ -27,7 +27,7 @@ pub record Input : Type 0 where
 
 -- The answer that document 01 lays down.
 unfoldable pub laid-down : Input → Answer
-unfolding header-words inputs-limit latches-limit gates-limit nodes-limit bound-limit problem-checked check-problem
+unfolding header-words inputs-limit latches-limit gates-limit nodes-limit bound-limit check-problem
 laid-down x = check-problem (x .version) (x .words)
 
 -- This outcome meets the promise for the input, or does not.

@@ -17,7 +17,7 @@ use Rattle.problem.specs.declared.Left.{Left}
 use Rattle.problem.specs.declared.Left.the-variants.{Constant, Child}
 use Rattle.problem.specs.declared.Node.{Node}
 use Rattle.problem.specs.declared.Node.the-variants.{Atom, Both, Either, Next, Until, Release}
-use Rattle.problem.specs.Promise.{refusal-answer, answer-of, outline-of, outline-back, OutlinedBy, CheckedAs, left-of, node-read}
+use Rattle.problem.specs.Promise.{refusal-answer, answer-of, outline-of, OutlinedBy, CheckedAs, left-of, node-read}
 
 -- ════════ The refusals ════════
 
@@ -49,6 +49,20 @@ refusal-not-yes (BadLiteral i) e = omega arith
 refusal-not-yes (BadNode i) e = omega arith
 
 -- ════════ The check ════════
+
+-- Document 01's outline as the crate's.
+abbrev outline-back : problems.Outline → Outline
+outline-back o = record {
+  inputs = o .inputs;
+  latches = o .latches;
+  gates = o .gates;
+  nodes = o .nodes;
+  bound = o .bound;
+  width = o .width;
+  «latches_from» = o .latches-from;
+  «gates_from» = o .gates-from;
+  «nodes_from» = o .nodes-from;
+}
 
 pub outline-unique : (s s′ : Outline) → outline-of s ≡ outline-of s′ → s ≡ s′
 outline-unique s s′ e = ap outline-back e

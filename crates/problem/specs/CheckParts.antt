@@ -2,9 +2,10 @@
 use mathlib.Core.Path.{_≡_}
 use mathlib.Core.List.{List}
 use Prim.Native.Nat.{ℕ, _+_}
-use Rattle.clauses.specs.Answers.{Answer, Check}
+use Rattle.clauses.specs.Answers.{Answer, Check, first-failing-part}
 use Rattle.meaning.specs.Problem as problems
-use Rattle.meaning.specs.Check.{InLimits, latch-checks, gate-checks, node-checks, first-failing-part}
+use Rattle.meaning.specs.Check.{latch-checks, gate-checks, node-checks}
+use Rattle.meaning.specs.Proper.{InLimits}
 use Rattle.problem.specs.declared.Outline.{Outline}
 use Rattle.problem.specs.declared.check.PartAnswer.{PartAnswer}
 use Rattle.problem.specs.declared.check.PartAnswer.the-variants.{Passed, Refused}

@@ -6,7 +6,8 @@ use Rattle.clauses.specs.Answers.{Answer, granted}
 use Rattle.meaning.specs.Answers.{bad-length, outside-limits, bad-reset, bad-literal, bad-node, bad-job}
 use Rattle.meaning.specs.Problem as problems
 use Rattle.meaning.specs.Problem.{Problem, W, outline, problem-by, problem}
-use Rattle.meaning.specs.Check.{Proper, check-problem}
+use Rattle.meaning.specs.Proper.{Proper}
+use Rattle.meaning.specs.Calls.{check-problem}
 use Rattle.problem.specs.declared.Outline.{Outline}
 use Rattle.problem.specs.declared.Refusal.{Refusal}
 use Rattle.problem.specs.declared.Refusal.the-variants.{BadVersion, BadLength, OutsideLimits, BadReset, BadLiteral, BadNode}
@@ -45,23 +46,6 @@ outline-of s = record {
   gates-from = s .«gates_from»;
   nodes-from = s .«nodes_from»;
 }
-
--- Document 01's as the crate's, and that of a version and words.
-abbrev pub outline-back : problems.Outline → Outline
-outline-back o = record {
-  inputs = o .inputs;
-  latches = o .latches;
-  gates = o .gates;
-  nodes = o .nodes;
-  bound = o .bound;
-  width = o .width;
-  «latches_from» = o .latches-from;
-  «gates_from» = o .gates-from;
-  «nodes_from» = o .nodes-from;
-}
-
-abbrev pub outline-in : ℕ → List ℕ → Outline
-outline-in version ws = outline-back (outline version ws)
 
 -- The problem that an outline shows in words: all that is read of words is said by it.
 unfoldable pub problem-in : Outline → List ℕ → Problem

@@ -22,7 +22,8 @@ ghost use mathlib.Core.Path.{_≡_};
 ghost use mathlib.Core.List.{List, [], _∷_, _++_};
 ghost use Prim.Native.Nat.{_<_};
 ghost use Rattle.clauses.specs.Answers.{Check};
-ghost use Rattle.meaning.specs.Check.{header-checks, limit-check, limit-checks, length-checks, latch-checks, gate-checks, node-checks, first-right, second-right, each-below, outline-parts};
+ghost use Rattle.meaning.specs.Check.{header-checks, limit-check, limit-checks, length-checks, latch-checks, gate-checks, node-checks, first-right, second-right, each-below};
+ghost use Rattle.meaning.specs.Calls.{outline-parts};
 ghost use Rattle.problem.specs.Promise.{CheckedAs, outline-of};
 ghost use Rattle.problem.specs.CheckParts.{Answers, Fitting, count-of, checks-of};
 

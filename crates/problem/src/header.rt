@@ -4,7 +4,7 @@ use crate::read::word_at;
 ghost use mathlib.Core.Path.{_≡_};
 ghost use lib.Dec.{ltb};
 ghost use Rattle.meaning.specs.Problem.{header-words, outline};
-ghost use Rattle.meaning.specs.Check.{InLimits};
+ghost use Rattle.meaning.specs.Proper.{InLimits};
 ghost use Rattle.problem.specs.Promise.{outline-of};
 
 // "A lent slice of 32-bit words: I, L, A, N, k": the place of each.

@@ -1,5 +1,5 @@
 -- The words of a refutation, read one by one: the steps so far, whether a word stands among hints, and whether a step is begun. Assumes nothing.
-use mathlib.Core.Bool.{Bool, true, false, not, cond, _&&_}
+use mathlib.Core.Bool.{Bool, true, false, not, cond, _&&_, _||_}
 use mathlib.Core.Path.{_≡_, refl, sym, ap, _∙_}
 use mathlib.Core.List.{List, [], _∷_, _++_}
 use Prim.Native.Nat.{ℕ, zero, suc, _+_}
@@ -7,12 +7,14 @@ use native.Mathlib.Nat.{add-zero}
 use native.Mathlib.Numerals.{add-one}
 use native.Mathlib.Omega.{arith}
 use lib.IntN.{ℤ}
+use lib.Dec.{leb}
 use lib.ListN.{length}
 use Rattle.clauses.proofs.Satisfaction.{first-true}
+use Rattle.clauses.proofs.WordByWord.{Part, literals, hints, is-literals, other, part-after, own-after, right-in, word-checks, part-at-end, whole-by-parts, word-by-word}
 use Rattle.clauses.specs.Answers.{Answer, check, first-failing, granted, bad-refutation}
-use Rattle.clauses.specs.Clauses.{Clause}
+use Rattle.clauses.specs.Clauses.{Clause, size}
 use Rattle.clauses.specs.CnfWords.{clauses-of, is-0, ended-after}
-use Rattle.clauses.specs.Refutations.{Part, literals, hints, is-literals, other, part-after, own-after, word-right, word-checks, part-at-end, whole, paired, steps-of, refutation-checks}
+use Rattle.clauses.specs.Refutations.{earlier, paired, steps-of, refutation-checks}
 use Rattle.refutation.proofs.Scan.{Reader, answer-from}
 use Rattle.refutation.proofs.CountClauses.{clauses-next}
 
@@ -51,10 +53,15 @@ module _ (t : Tally) {n : ℕ} where
 abbrev pub part-of : Bool → Part
 part-of h = cond h hints literals
 
+pub right-by-part : (variables own : ℕ) (h : Bool) (w : ℤ)
+    → cond h (is-0 w || earlier own w) (leb (size w) variables) ≡ right-in variables (part-of h) own w
+right-by-part variables own true w = refl
+right-by-part variables own false w = refl
+
 abbrev pub reader : ℕ → ℕ → Reader
 reader variables clauses = record {
   State = Tally;
-  right = λ t w. word-right variables (part-of (t .hinting)) (suc (clauses + t .steps)) w;
+  right = λ t w. right-in variables (part-of (t .hinting)) (suc (clauses + t .steps)) w;
   after = λ t w. tally-after (is-0 w) t;
   cut-short = λ t. t .begun;
   count = λ t. t .steps;
@@ -128,7 +135,7 @@ module _ (variables clauses : ℕ) where
   checked-is s h o p own i (w ∷ ws) e place total a b c d t =
       let u = tally-after (is-0 w) (tally s h o) in
       rw (a, b)
-      (ap (λ x. cond (word-right variables (part-of h) (suc (clauses + s)) w) x (bad-refutation i))
+      (ap (λ x. cond (right-in variables (part-of h) (suc (clauses + s)) w) x (bad-refutation i))
       (checked-is (u .steps) (u .hinting) (u .begun) (part-after (part-of h) w) (own-after (part-of h) (suc (clauses + s)) w) (suc i) ws e place total
       (part-next (is-0 w) s h o)
       (own-next clauses s h o w)
@@ -137,10 +144,11 @@ module _ (variables clauses : ℕ) where
       (λ y. t y ∙ ap (λ n. s + ends h n) (clauses-next w ws (first-true (ended-after w ws) _ (sym c ∙ y))) ∙ ends-next (is-0 w) s h o (length (clauses-of ws)))))
 
   pub read-refutation : (ws : List ℤ) → first-failing (refutation-checks variables clauses ws) (granted (length (steps-of ws))) ≡ answer-from (reader variables clauses) (tally 0 false false) 0 ws
-  unfolding refutation-checks
   read-refutation ws =
-      checked-is 0 false false literals (suc clauses) 0 ws (whole ws) (length ws) (length (steps-of ws)) refl (omega arith) (start ws) (omega arith) (λ _. omega (arith, paired-length (clauses-of ws)))
+      rw word-by-word
+      (checked-is 0 false false literals (suc clauses) 0 ws (whole-by-parts ws) (length ws) (length (steps-of ws)) refl (omega arith) (start ws) (omega arith)
+      (λ _. omega (arith, paired-length (clauses-of ws))))
     where
-      start : (ws : List ℤ) → whole ws ≡ whole-from false false ws
+      start : (ws : List ℤ) → whole-by-parts ws ≡ whole-from false false ws
       start [] = refl
       start (w ∷ ws) = refl

@@ -7,11 +7,11 @@ use native.Mathlib.Omega.{arith}
 use borrow.Author.Tests.{le-leb, lt-leb}
 use lib.IntN.{ℤ}
 use lib.ListN.{length, replicate}
-use Rattle.clauses.proofs.Answers.{first-failing-passed, number-of, refused-anyway, steps-judged}
+use Rattle.clauses.proofs.Answers.{first-failing-passed, number-of, refused-anyway, steps-judged, cnf-judged, clauses-judged}
 use Rattle.clauses.specs.Lists.{written}
 use Rattle.clauses.specs.Answers.{first-failing, granted, bad-cnf, bad-refutation}
 use Rattle.clauses.specs.CnfWords.{clauses-of, cnf-checks}
-use Rattle.clauses.specs.Refutations.{steps-of, refutation-checks, area-checks, judge-steps, judge-clauses, judge-cnf, area-after}
+use Rattle.clauses.specs.Refutations.{steps-of, refutation-checks, area-checks, judge-steps, judge-cnf, area-after}
 use Rattle.refutation.specs.declared.RefutationAnswer.{RefutationAnswer}
 use Rattle.refutation.specs.declared.RefutationAnswer.the-variants.{BadCnf, BadRefutation, AreaTooSmall}
 use Rattle.refutation.specs.Promise.{answer-of, Judged}
@@ -28,10 +28,12 @@ module _ (variables : ℕ) (cnf ws : List ℤ) (numbers clauses : List ℕ) wher
   Refused r = Meets r numbers clauses
 
   pub refused-16 : {i : ℕ} → bad-cnf i ≡ first-failing (cnf-checks variables cnf) (granted (length (clauses-of cnf))) → Refused (BadCnf i)
-  unfolding judge-cnf area-after
+  unfolding area-after
   refused-16 e =
       record {
-        answered = refused-anyway (cnf-checks variables cnf) _ _ e (λ f. let z : 16 ≡ 0 = number-of f in omega arith);
+        answered =
+            refused-anyway (cnf-checks variables cnf) _ _ e (λ f. let z : 16 ≡ 0 = number-of f in omega arith)
+            ∙ sym (cnf-judged variables cnf ws (length numbers) (length clauses));
         numbers-left = refl;
         clauses-left = refl;
       }
@@ -41,8 +43,10 @@ module _ (variables : ℕ) (cnf ws : List ℤ) (numbers clauses : List ℕ) wher
     past-16 : judge-cnf variables cnf ws (length numbers) (length clauses)
         ≡ first-failing (refutation-checks variables c ws)
         (first-failing (area-checks variables (clauses-of cnf) (steps-of ws) (length numbers) (length clauses)) (judge-steps (clauses-of cnf) (steps-of ws)))
-    unfolding judge-cnf judge-clauses
-    past-16 = rw c-is (first-failing-passed (cnf-checks variables cnf) _ right)
+    past-16 =
+        cnf-judged variables cnf ws (length numbers) (length clauses)
+        ∙ first-failing-passed (cnf-checks variables cnf) _ right
+        ∙ rw c-is (clauses-judged variables (clauses-of cnf) ws (length numbers) (length clauses))
 
     pub refused-11 : {i : ℕ} → bad-refutation i ≡ first-failing (refutation-checks variables c ws) (granted (length (steps-of ws))) → Refused (BadRefutation i)
     unfolding area-after

@@ -1,23 +1,16 @@
--- Areas that are cleared, worked in and cleared again, and the clauses of a CNF that 16 passes. Assumes nothing.
-use mathlib.Core.Path.{_≡_, _∙_, ap, refl, sym}
-use mathlib.Core.List.{List, _++_, append-nil, [], _∷_}
-use mathlib.Core.Bool.{Bool, true}
-use Prim.Native.Nat.{ℕ, suc, _+_, _-_, _<_, _≤_, zero}
+-- Areas that are cleared, worked in and cleared again. Assumes nothing.
+use mathlib.Core.Path.{_≡_, _∙_, ap}
+use mathlib.Core.List.{List, _++_, append-nil}
+use Prim.Native.Nat.{ℕ, suc, _+_, _-_, _<_, _≤_}
 use native.Mathlib.Numerals.{add-one}
 use native.Mathlib.Omega.{arith}
-use borrow.Author.Tests.{le-leb}
-use lib.IntN.{ℤ, pos, negsuc}
+use lib.IntN.{ℤ}
 use lib.ListN.{length, getD, drop, replicate, length-append, length-drop, length-replicate, getD-replicate, List·getD-append}
 use lib.Seq.{drop-drop, drop-at}
-use lib.Dec.{leb}
-use Rattle.clauses.specs.Lists.{written, all-of, numbered}
-use Rattle.clauses.specs.Clauses.{Within, Clause, variable-of}
-use Rattle.clauses.specs.CnfWords.{clauses-of, in-front, ended, cnf-checks}
-use Rattle.clauses.specs.Limits.{variables-limit}
-use Rattle.clauses.specs.Answers.{check, bad-cnf}
-use Rattle.clauses.proofs.Satisfaction.{first-true, second-true, all-of-first, all-of-second}
-use Rattle.clauses.proofs.Answers.{passing, numbered-passing}
-use Rattle.refutation.specs.Work.{Older, Places, Standing, CnfRight}
+use Rattle.clauses.specs.Lists.{written}
+use Rattle.clauses.specs.Clauses.{Within}
+use Rattle.clauses.specs.CnfWords.{clauses-of}
+use Rattle.refutation.specs.Work.{Older, Places, Standing}
 
 -- ════════ Areas ════════
 
@@ -86,29 +79,3 @@ standing-start {cnf = cnf} counted within p =
       of-steps = record { fits = omega (arith, p .fits); inside = λ n h. absurd (omega arith); found = λ n h. absurd (omega arith) };
       within = rw append-nil within;
     }
-
--- ════════ The clauses of a CNF that 16 passes ════════
-
-module _ (variables : ℕ) where
-  abbrev small : ℤ → Bool
-  small w = leb (variable-of w) variables
-
-  within-in-front : (w : ℤ) (cs : List Clause) → 1 ≤ variable-of w → small w ≡ true → Within variables cs → Within variables (in-front w cs)
-  within-in-front w [] some e rest = rw (le-leb 1 (variable-of w) some, e)
-  within-in-front w (c ∷ cs) some e rest = rw (le-leb 1 (variable-of w) some, e) rest
-
-  small-within : (ws : List ℤ) → all-of small ws ≡ true → Within variables (clauses-of ws)
-  small-within [] e = refl
-  small-within (pos zero ∷ ws) e = small-within ws (second-true (leb 0 variables) _ e)
-  small-within (pos (suc n) ∷ ws) e =
-      within-in-front (pos (suc n)) (clauses-of ws) (omega arith) (first-true (leb (suc n) variables) _ e) (small-within ws (second-true (leb (suc n) variables) _ e))
-  small-within (negsuc n ∷ ws) e =
-      within-in-front (negsuc n) (clauses-of ws) (omega arith) (first-true (leb (suc n) variables) _ e) (small-within ws (second-true (leb (suc n) variables) _ e))
-
-  pub cnf-right : (cnf : List ℤ) → CnfRight variables cnf → Within variables (clauses-of cnf) × (ended cnf ≡ true)
-  unfolding cnf-checks
-  cnf-right cnf e =
-      let words = numbered 0 cnf (λ i w. check (small w) (bad-cnf i)) in
-      let last = check (ended cnf) (bad-cnf (length cnf)) ∷ [] in
-      let both = second-true (leb variables variables-limit) (all-of passing (words ++ last)) e in
-      (small-within cnf (sym (numbered-passing small bad-cnf 0 cnf) ∙ all-of-first passing words last both), first-true (ended cnf) true (all-of-second passing words last both))

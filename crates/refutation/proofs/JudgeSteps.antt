@@ -12,10 +12,10 @@ use lib.ListN.{length, drop, set, length-set}
 use lib.Seq.{drop-set-lt}
 use Rattle.clauses.proofs.Satisfaction.{both-true, all-of-append}
 use Rattle.clauses.specs.Lists.{all-of, empty}
-use Rattle.clauses.specs.Answers.{Answer, check, first-failing, granted, step-refused, not-closed}
+use Rattle.clauses.specs.Answers.{Answer, check, first-failing-part, granted, step-refused, not-closed}
 use Rattle.clauses.specs.Clauses.{Clause, variable-of, literal-within}
 use Rattle.clauses.specs.CnfWords.{clauses-of}
-use Rattle.clauses.specs.Refutations.{Step, step, steps-of, step-accepted, clause-numbered, clauses-after, step-checks, last-is-empty-after, judge-steps}
+use Rattle.clauses.specs.Refutations.{Step, step, steps-of, step-accepted, clause-numbered, with-step, step-checks, last-is-empty-after, judge-steps}
 use Rattle.refutation.specs.Work.{LiteralsWithin, Older, Marked, clause-from, step-clauses, known, Standing, StepsRight}
 use Rattle.refutation.proofs.ClausePlaces.{places-kept, places-more}
 use Rattle.refutation.proofs.KnownClauses.{steps-length}
@@ -31,7 +31,7 @@ last-from closed (t ∷ ts) = last-is-empty-after t ts
 -- The answer for the steps that are left, from the clauses so far; `total` is the number of all steps.
 abbrev pub answer-left : List Clause → ℕ → Bool → ℕ → List Step → Answer
 answer-left cs s closed total ss =
-    first-failing (step-checks cs s ss ++ (check (last-from closed ss) (not-closed total) ∷ [])) (granted 0)
+    first-failing-part (step-checks cs s ss ∷ (check (last-from closed ss) (not-closed total) ∷ []) ∷ []) (granted 0)
 
 all-left : (cs : List Clause) (ss : List Step) → judge-steps cs ss ≡ answer-left cs 0 false (length ss) ss
 unfolding judge-steps
@@ -47,7 +47,7 @@ module _ (cs : List Clause) (s : ℕ) (closed : Bool) (total : ℕ) (t : Step) (
   left-refused e = rw e
 
   left-accepted : step-accepted (clause-numbered cs) t ≡ true
-      → answer-left cs s closed total (t ∷ ts) ≡ answer-left (clauses-after cs t) (suc s) (empty (t .clause)) total ts
+      → answer-left cs s closed total (t ∷ ts) ≡ answer-left (with-step cs t) (suc s) (empty (t .clause)) total ts
   left-accepted e = rw (e, last-next)
 
 no-literals : (c : Clause) → eqb (length c) 0 ≡ empty c
@@ -154,7 +154,7 @@ module _ {variables : ℕ} {cnf ws : List ℤ} {clauses : ℕ} {values₀ places
             → Judging variables cnf ws clauses values₀ places₀ values′ (set places (clauses + done) at) (done + 1) (eqb (length clause) 0) (at + length clause + 1 + length hints + 1)
         step-judged room e m long =
             let yes = sym (rw step-is at e) in
-            let more : known cnf ws (done + 1) ≡ clauses-after (known cnf ws done) here = known-more cnf (j .words) l in
+            let more : known cnf ws (done + 1) ≡ with-step (known cnf ws done) here = known-more cnf (j .words) l in
             rw (end-is, c-is)
             (record {
               words = step-after (j .words) l;

@@ -8,7 +8,7 @@ use lib.ListN.{length, replicate}
 use Rattle.clauses.specs.Limits.{variables-limit}
 use Rattle.clauses.specs.Answers.{Answer}
 use Rattle.clauses.specs.CnfWords.{cnf-checks}
-use Rattle.clauses.specs.Refutations.{judge-cnf, judge-clauses, judge-steps, refutation-checks, area-checks, step-accepted}
+use Rattle.clauses.specs.Refutations.{judge-cnf, refutation-checks, area-checks, step-accepted}
 use Rattle.clauses.specs.Cases.{T-cnf, T-steps, T-other-steps}
 use Rattle.clauses.proofs.Answers.{number-of, place-of}
 use Rattle.refutation.specs.Promise.{Judged, CnfCounted, StepsCounted, answer-of}
@@ -35,7 +35,7 @@ Wrong x r = (numbers′ clauses′ : List ℕ) → Breaks x r numbers′ clauses
 
 -- The answer that document 01 lays down.
 unfoldable pub laid-down : Input → Answer
-unfolding judge-cnf judge-clauses judge-steps refutation-checks area-checks step-accepted cnf-checks variables-limit
+unfolding judge-cnf refutation-checks area-checks step-accepted cnf-checks variables-limit
 laid-down x = judge-cnf (x .variables) (x .cnf) (x .refutation) (length (x .numbers)) (length (x .clauses))
 
 module _ (x : Input) (r : RefutationAnswer) where

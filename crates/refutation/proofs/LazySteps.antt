@@ -5,14 +5,14 @@ use mathlib.Core.List.{List, [], _∷_, _++_, map}
 use mathlib.Core.Option.{Option·getD}
 use Prim.Native.Nat.{ℕ, suc, _+_}
 use native.Mathlib.Omega.{arith}
-use lib.IntN.{ℤ, pos, negsuc}
+use lib.IntN.{ℤ, pos}
 use lib.Dec.{eqb}
 use lib.ListN.{length}
 use Rattle.clauses.specs.Lists.{all-of, empty}
-use Rattle.clauses.specs.Answers.{check, first-failing, granted, not-closed}
-use Rattle.clauses.specs.Clauses.{Clause, negated, same}
+use Rattle.clauses.specs.Answers.{check, first-failing-part, granted, not-closed}
+use Rattle.clauses.specs.Clauses.{Clause, minus, negated, same}
 use Rattle.clauses.specs.CnfWords.{clauses-of}
-use Rattle.clauses.specs.Refutations.{Step, steps-of, both-signs, clause-numbered, not-false, Outcome, conflict, unit, neither, outcome, hints-conflict, step-accepted, step-checks, clauses-after, last-is-empty-after, judge-steps}
+use Rattle.clauses.specs.Refutations.{Step, steps-of, both-signs, clause-numbered, not-false, Outcome, conflict, unit, neither, outcome, hints-conflict, step-accepted, step-checks, with-step, last-is-empty-after, judge-steps}
 use Rattle.refutation.specs.Promise.{answer-of}
 use Rattle.refutation.specs.declared.RefutationAnswer.{RefutationAnswer}
 use Rattle.refutation.specs.declared.RefutationAnswer.the-variants.{Yes, StepRefused, NotClosed}
@@ -28,7 +28,7 @@ Rule = List Clause → ℕ → Step → List Step → Bool
 abbrev pub steps-by : Rule → List Clause → ℕ → Bool → List Step → RefutationAnswer
 steps-by rule cs i closed [] = cond closed Yes (NotClosed i)
 steps-by rule cs i closed (s ∷ ss) =
-    cond (rule cs i s ss) (steps-by rule (clauses-after cs s) (suc i) (empty (s .clause)) ss) (StepRefused i)
+    cond (rule cs i s ss) (steps-by rule (with-step cs s) (suc i) (empty (s .clause)) ss) (StepRefused i)
 
 -- What a judge by this rule answers, where the words and the work areas are right.
 abbrev pub answer-by : Rule → Input → RefutationAnswer
@@ -44,12 +44,12 @@ answer-cond false p q = refl
 -- The checks of steps from number i on, with the closing check after them.
 steps-by-rule : (cs : List Clause) (i total : ℕ) (closed : Bool) (s : Step) (ss : List Step) → total ≡ suc i + length ss
     → answer-of (steps-by the-rule cs i closed (s ∷ ss))
-    ≡ first-failing (step-checks cs i (s ∷ ss) ++ (check (last-is-empty-after s ss) (not-closed total) ∷ [])) (granted 0)
+    ≡ first-failing-part (step-checks cs i (s ∷ ss) ∷ (check (last-is-empty-after s ss) (not-closed total) ∷ []) ∷ []) (granted 0)
 steps-by-rule cs i total closed s [] e =
     let t : total ≡ suc i = omega arith in
     rw (t, answer-cond (step-accepted (clause-numbered cs) s), answer-cond (empty (s .clause)))
 steps-by-rule cs i total closed s (t ∷ ts) e =
-    rw (answer-cond (step-accepted (clause-numbered cs) s), steps-by-rule (clauses-after cs s) (suc i) total (empty (s .clause)) t ts (omega arith))
+    rw (answer-cond (step-accepted (clause-numbered cs) s), steps-by-rule (with-step cs s) (suc i) total (empty (s .clause)) t ts (omega arith))
 
 -- By the rule of document 01 the answer is the one laid down, so a wrong rule is all that is wrong below.
 pub the-rule-right : (cs : List Clause) (ss : List Step) → answer-of (steps-by the-rule cs 0 false ss) ≡ judge-steps cs ss
@@ -181,7 +181,7 @@ both-signs-pass cs i s ss = hints-conflict (clause-numbered cs) (map negated (s 
 
 -- 1 -1 0 1 0, then T's step 0 2 12 5 0: the first step's clause is [1, -1]. 13 at 0 is right, and this judge says yes.
 abbrev pub both-signs-step : Input
-both-signs-step = over-T (pos 1 ∷ negsuc 0 ∷ pos 0 ∷ pos 1 ∷ pos 0 ∷ pos 0 ∷ pos 2 ∷ pos 12 ∷ pos 5 ∷ pos 0 ∷ []) 7 14
+both-signs-step = over-T (pos 1 ∷ minus 1 ∷ pos 0 ∷ pos 1 ∷ pos 0 ∷ pos 0 ∷ pos 2 ∷ pos 12 ∷ pos 5 ∷ pos 0 ∷ []) 7 14
 
 pub both-signs-breaks : Wrong both-signs-step (answer-by both-signs-pass both-signs-step)
 unfolding laid-down

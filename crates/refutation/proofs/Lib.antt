@@ -17,6 +17,7 @@ pub mod JudgeCounted
 pub mod JudgeAnswers
 pub mod Unique
 pub mod Refuted
+pub mod Refutable
 pub mod Lazy
 pub mod LazySteps
 pub mod LazyAreas

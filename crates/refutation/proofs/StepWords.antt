@@ -12,11 +12,12 @@ use lib.Dec.{leb, ltb}
 use lib.ListN.{length, getD, drop, length-drop, drop-of-length-le}
 use lib.Seq.{drop-cons, drop-drop, take-suc}
 use Rattle.clauses.proofs.Satisfaction.{first-true, second-true, both-true, all-of-first, all-of-second}
-use Rattle.clauses.proofs.Answers.{passing, words-right, words-right-is}
+use Rattle.clauses.proofs.Answers.{passing}
+use Rattle.clauses.proofs.WordByWord.{Part, literals, hints, is-literals, other, word-checks, words-right, words-right-is, part-at-end, whole-by-parts, word-by-word}
 use Rattle.clauses.specs.Answers.{check, bad-refutation}
 use Rattle.clauses.specs.Clauses.{variable-of}
 use Rattle.clauses.specs.CnfWords.{clauses-of, ended}
-use Rattle.clauses.specs.Refutations.{Part, literals, hints, is-literals, other, word-checks, part-at-end, whole, refutation-checks, Step, step, steps-of}
+use Rattle.clauses.specs.Refutations.{Step, step, steps-of}
 use Rattle.refutation.specs.Work.{LiteralsWithin, up-to-0, clause-from, step-clauses, StepsRight}
 use Rattle.refutation.proofs.ClausePlaces.{next-clause, ended-inside}
 
@@ -92,13 +93,13 @@ literals-if literals e = refl
 literals-if hints e = absurd (false≢true e)
 
 pub first-step : (variables clauses : ℕ) (ws : List ℤ) → StepsRight variables clauses ws → StepAt variables clauses ws 0 0
-unfolding refutation-checks
 first-step variables clauses ws e =
     let own : suc (clauses + 0) ≡ suc clauses = omega arith in
     let checks = word-checks variables literals (suc clauses) 0 ws in
-    let last = check (whole ws) (bad-refutation (length ws)) ∷ [] in
-    let all = all-of-first passing checks last e in
-    let entire = first-true (whole ws) true (all-of-second passing checks last e) in
+    let last = check (whole-by-parts ws) (bad-refutation (length ws)) ∷ [] in
+    let pass = rw (word-by-word variables clauses ws) at e in
+    let all = all-of-first passing checks last pass in
+    let entire = first-true (whole-by-parts ws) true (all-of-second passing checks last pass) in
     record {
       inside = omega arith;
       not-cut = first-true (ended ws) (is-literals (part-at-end literals ws)) entire;

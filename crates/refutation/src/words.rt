@@ -1,10 +1,13 @@
 // The words of a CNF and of a refutation, checked and counted.
 use crate::WordsCounted;
 use crate::literals::variable;
-ghost use mathlib.Core.Bool.{cond};
+ghost use mathlib.Core.Bool.{cond, _||_};
 ghost use mathlib.Core.Path.{_≡_};
 ghost use Prim.Native.Nat.{suc, _+_};
-ghost use Rattle.clauses.specs.Refutations.{earlier, word-right, literals, hints};
+ghost use lib.Dec.{leb};
+ghost use Rattle.clauses.specs.Clauses.{size};
+ghost use Rattle.clauses.specs.CnfWords.{is-0};
+ghost use Rattle.clauses.specs.Refutations.{earlier};
 ghost use Rattle.refutation.specs.Promise.{CnfCounted, StepsCounted};
 
 // Document 01's limit on the variables of a bare CNF.
@@ -56,7 +59,7 @@ fn names_earlier(clauses: usize, steps: usize, hint: i32) -> bool
 
 // A literal is at most V in size; a hint is an earlier clause.
 fn word_right(limit: usize, clauses: usize, steps: usize, hinting: bool, w: i32) -> bool
-    ensures { λ r. ⌜ r ≡ word-right limit (cond hinting hints literals) (suc (clauses + steps)) w ⌝ }
+    ensures { λ r. ⌜ r ≡ cond hinting (is-0 w || earlier (suc (clauses + steps)) w) (leb (size w) limit) ⌝ }
 {
     if hinting {
         if w == 0 {

@@ -6,13 +6,14 @@ use Prim.Native.Nat.{ℕ, _+_, _-_, _≤_, _<_}
 use native.Mathlib.Omega.{arith}
 use lib.ListN.{length}
 use Rattle.meaning.specs.Problem.{Problem, Node, node, atom, both, either, next, until, release}
-use Rattle.meaning.specs.Check.{Proper, NodeProper}
+use Rattle.meaning.specs.Proper.{Proper, NodeProper}
 use Rattle.meaning.specs.Formulas.{formula}
-use Rattle.meaning.specs.Bounded.{bounded-value}
+use Rattle.meaning.specs.LassoValue.{bounded-value}
 use Rattle.meaning.specs.Witnesses.{rows, position}
 use Rattle.pairing.specs.NodeLaws.{NodeLaws, at-next, op-value, Q-end}
 use Rattle.pairing.proofs.Trees.{formula-is}
-use Rattle.pairing.proofs.NodeValues.{StartWithin, Q-by-op, node-laws, node-laws-determine, values-zero-false}
+use Rattle.pairing.proofs.Gates.{values-zero-false}
+use Rattle.pairing.proofs.NodeValues.{StartWithin, Q-by-op, node-laws, node-laws-determine}
 use Rattle.problem.specs.declared.Outline.{Outline}
 use Rattle.problem.specs.Promise.{problem-in}
 use Rattle.problem.proofs.Outlines.{Shows, shows, bound-small}

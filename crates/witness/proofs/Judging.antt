@@ -14,9 +14,10 @@ use Rattle.clauses.specs.Answers.{Answer, Check, first-failing, granted}
 use Rattle.clauses.proofs.Satisfaction.{first-true, second-true}
 use Rattle.clauses.proofs.Answers.{passing, first-failing-append, place-of}
 use Rattle.meaning.specs.Problem.{Problem, problem}
-use Rattle.meaning.specs.Witnesses.{witness-length, byte, byte-checks, reset-checks, loop-checks, formula-check, shape, judge-bytes, judge-run, judge-formula}
-use Rattle.meaning.specs.Calls.{judge-witness}
+use Rattle.meaning.specs.Witnesses.{witness-length, byte, byte-checks, reset-checks, loop-checks, formula-checks, shape}
+use Rattle.meaning.specs.Calls.{judge-bytes, judge-witness}
 use Rattle.meaning.proofs.Check.{first-failing-refused, checked-if-well-formed}
+use Rattle.meaning.proofs.Calls.{judge-witness-is}
 use Rattle.problem.specs.declared.Outline.{Outline}
 use Rattle.problem.specs.declared.Refusal.{Refusal}
 use Rattle.problem.specs.declared.Checked.the-variants.{Good, Refused}
@@ -98,30 +99,27 @@ start-right p bs is a =
 
 -- 7 to 10 in their order.
 abbrev pub from-loop : Problem → List ℕ → List Check
-from-loop p bs = loop-checks p bs (shape bs) ++ (formula-check p bs ∷ [])
+from-loop p bs = loop-checks p bs (shape bs) ++ formula-checks p bs
 
 abbrev pub from-resets : Problem → List ℕ → List Check
 from-resets p bs = reset-checks p bs ++ from-loop p bs
 
 pub judged : (p : Problem) (bs : List ℕ) {r : WitnessAnswer} → AnsweredBy (byte-checks p bs ++ from-resets p bs) r → answer-of r ≡ judge-bytes p bs
-unfolding judge-bytes judge-run judge-formula
+unfolding judge-bytes
 judged p bs a =
-    let formula : Answer = first-failing (formula-check p bs ∷ []) (granted 0) in
     a .answered (granted 0)
     ∙ first-failing-append (byte-checks p bs) (from-resets p bs) (granted 0)
     ∙ ap (first-failing (byte-checks p bs))
     (first-failing-append (reset-checks p bs) (from-loop p bs) (granted 0)
-    ∙ ap (first-failing (reset-checks p bs)) (first-failing-append (loop-checks p bs (shape bs)) (formula-check p bs ∷ []) (granted 0))
-    ∙ sym (first-failing-append (reset-checks p bs) (loop-checks p bs (shape bs)) formula))
+    ∙ ap (first-failing (reset-checks p bs)) (first-failing-append (loop-checks p bs (shape bs)) (formula-checks p bs) (granted 0)))
 
 module _ {version : ℕ} {ws : List ℕ} where
   -- The check of a good problem leaves the answer to the witness.
   pub good-judged : {s : Outline} → CheckedAs version ws (Good s) → (bs : List ℕ) → judge-bytes (problem-in s ws) bs ≡ judge-witness version ws bs
-  unfolding judge-witness
   good-judged c bs =
-      rw (c .outlined .problem-is) (sym (checked-if-well-formed version ws (judge-bytes (problem version ws) bs) (well-formed-if-good c)))
+      rw (c .outlined .problem-is)
+      (sym (judge-witness-is version ws bs ∙ checked-if-well-formed version ws (judge-bytes (problem version ws) bs) (well-formed-if-good c)))
 
   -- A refused problem's answer does not depend on the witness.
   pub refused-judged : {f : Refusal} → CheckedAs version ws (Refused f) → (bs : List ℕ) → refusal-answer f ≡ judge-witness version ws bs
-  unfolding judge-witness
-  refused-judged {f} c bs = refused-whatever version ws f _ (c .answered)
+  refused-judged {f} c bs = refused-whatever version ws f _ (c .answered) ∙ sym (judge-witness-is version ws bs)

@@ -7,10 +7,9 @@ use Rattle.clauses.specs.Answers.{Answer}
 use Rattle.clauses.proofs.Answers.{number-of, place-of}
 use Rattle.meaning.specs.Limits.{inputs-limit, latches-limit, gates-limit, nodes-limit, bound-limit}
 use Rattle.meaning.specs.Problem.{header-words, problem-by, problem}
-use Rattle.meaning.specs.Check.{problem-checked}
 use Rattle.meaning.specs.Runs.{values, next-values}
 use Rattle.meaning.specs.Formulas.{formula}
-use Rattle.meaning.specs.Witnesses.{run, judge-formula, judge-run, judge-bytes}
+use Rattle.meaning.specs.Witnesses.{run}
 use Rattle.meaning.specs.Calls.{judge-witness}
 use Rattle.meaning.specs.Cases.{T-words, H}
 use Rattle.problem.specs.declared.Refusal.the-variants.{BadVersion, BadReset}
@@ -30,7 +29,7 @@ pub record Input : Type 0 where
 
 -- The answer that document 01 lays down.
 unfoldable pub laid-down : Input → Answer
-unfolding header-words inputs-limit latches-limit gates-limit nodes-limit bound-limit problem-checked judge-witness problem-by problem values next-values formula run judge-formula judge-run judge-bytes
+unfolding header-words inputs-limit latches-limit gates-limit nodes-limit bound-limit judge-witness problem-by problem values next-values formula run
 laid-down x = judge-witness (x .version) (x .words) (x .bytes)
 
 -- This answer meets the promise for the input, or does not.

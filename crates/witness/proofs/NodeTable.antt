@@ -8,7 +8,7 @@ use lib.ListN.{length, set}
 use lib.Seq.{getD-set-same, getD-set-other}
 use Rattle.meaning.specs.Limits.{bound-limit}
 use Rattle.meaning.specs.Problem.{Problem, Node}
-use Rattle.meaning.specs.Check.{NodeProper}
+use Rattle.meaning.specs.Proper.{NodeProper}
 use Rattle.pairing.specs.NodeLaws.{E-value}
 use Rattle.pairing.proofs.NodeValues.{op-same}
 use Rattle.witness.specs.declared.nodes.Span.{Span}

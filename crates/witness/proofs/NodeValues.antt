@@ -9,7 +9,7 @@ use native.Mathlib.Omega.{arith}
 use lib.ListN.{length}
 use Rattle.meaning.specs.Limits.{nodes-limit}
 use Rattle.meaning.specs.Problem.{Problem, Node, node}
-use Rattle.meaning.specs.Check.{Proper}
+use Rattle.meaning.specs.Proper.{Proper}
 use Rattle.pairing.specs.NodeLaws.{at-next, Q-end}
 use Rattle.pairing.proofs.NextValues.{at-next-same}
 use Rattle.problem.specs.declared.Outline.{Outline}

@@ -8,7 +8,7 @@ use native.Mathlib.Omega.{arith}
 use lib.ListN.{length, take, drop, set, length-set, drop-of-length-le}
 use lib.Seq.{drop-cons, take-suc-set, getD-take}
 use Rattle.meaning.specs.Problem.{Problem, W, gate}
-use Rattle.meaning.specs.Check.{Proper}
+use Rattle.meaning.specs.Proper.{Proper}
 use Rattle.meaning.specs.Runs.{gate-value, with-gates}
 use Rattle.pairing.proofs.Gates.{same-gate}
 use Rattle.witness.specs.Tables.{given-width}

@@ -10,7 +10,7 @@ use lib.ListN.{length, take, drop, getD, length-map}
 use lib.Seq.{take-take, take-nil, take-at, drop-at, getD-take, length-take-le, ext-getD}
 use Rattle.meaning.specs.Limits.{inputs-limit, latches-limit, gates-limit, bound-limit}
 use Rattle.meaning.specs.Problem.{Problem, Latch, W, latch}
-use Rattle.meaning.specs.Check.{Proper}
+use Rattle.meaning.specs.Proper.{Proper}
 use Rattle.meaning.specs.Runs.{literal-value, next-values}
 use Rattle.meaning.specs.Witnesses.{position, rows}
 use Rattle.pairing.proofs.Gates.{same-literal}

@@ -7,7 +7,7 @@ use Prim.Native.Nat.{ℕ, suc, _+_, _*_, _<_, _≤_}
 use lib.ListN.{length, getD, take, drop}
 use Rattle.meaning.specs.Limits.{inputs-limit, latches-limit, gates-limit, nodes-limit, bound-limit}
 use Rattle.meaning.specs.Problem.{Problem, Latch, W, Node, node}
-use Rattle.meaning.specs.Check.{NodeProper}
+use Rattle.meaning.specs.Proper.{NodeProper}
 use Rattle.meaning.specs.Runs.{literal-value}
 use Rattle.meaning.specs.Bounded.{Shape, prefix, lasso}
 use Rattle.meaning.specs.Witnesses.{witness-length, byte, rows}

@@ -9,12 +9,12 @@ use crate::rows::run;
 use problem::Checked;
 use problem::Outline;
 use problem::check::check;
-ghost use mathlib.Core.List.{[], _∷_, _++_};
+ghost use mathlib.Core.List.{_++_};
 ghost use mathlib.Core.Path.{_≡_};
 ghost use Rattle.meaning.specs.Formulas.{formula};
-ghost use Rattle.meaning.specs.Bounded.{bounded-value};
-ghost use Rattle.meaning.specs.Witnesses.{rows, shape, loop-checks, formula-check, judge-bytes};
-ghost use Rattle.meaning.specs.Calls.{judge-witness};
+ghost use Rattle.meaning.specs.LassoValue.{bounded-value};
+ghost use Rattle.meaning.specs.Witnesses.{rows, shape, loop-checks, formula-checks};
+ghost use Rattle.meaning.specs.Calls.{judge-bytes, judge-witness};
 ghost use Rattle.problem.specs.Promise.{problem-in, ProperIn};
 ghost use Rattle.witness.specs.Tables.{RunShown};
 ghost use Rattle.witness.specs.Promise.{AnsweredBy, answer-of};
@@ -34,7 +34,7 @@ fn shown_value(words: &[u32], s: Outline, witness: &[u8], table: &[bool]) -> boo
 // 9 and 10, off the table of the run.
 fn shown(words: &[u32], s: Outline, witness: &[u8], table: &[bool]) -> WitnessAnswer
     requires { ⌜ RunShown s (now words) (now witness) (now table) ⌝ }
-    ensures { λ r. ⌜ AnsweredBy (loop-checks (problem-in s (now (words .entry))) (now (witness .entry)) (shape (now (witness .entry))) ++ (formula-check (problem-in s (now (words .entry))) (now (witness .entry)) ∷ [])) r ⌝ }
+    ensures { λ r. ⌜ AnsweredBy (loop-checks (problem-in s (now (words .entry))) (now (witness .entry)) (shape (now (witness .entry))) ++ formula-checks (problem-in s (now (words .entry))) (now (witness .entry))) r ⌝ }
 {
     let by_loop = closes(words, s, witness, table);
     let WitnessAnswer::Yes = by_loop else {

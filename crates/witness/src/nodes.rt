@@ -15,7 +15,7 @@ ghost use lib.ListN.{length, getD};
 ghost use Rattle.meaning.specs.Limits.{bound-limit};
 ghost use Rattle.meaning.specs.Runs.{literal-value};
 ghost use Rattle.meaning.specs.Formulas.{formula};
-ghost use Rattle.meaning.specs.Bounded.{bounded-value};
+ghost use Rattle.meaning.specs.LassoValue.{bounded-value};
 ghost use Rattle.meaning.specs.Witnesses.{rows};
 ghost use Rattle.pairing.specs.NodeLaws.{left-value, at-next, Q-end};
 ghost use Rattle.problem.specs.Promise.{problem-in, left-of, node-read};

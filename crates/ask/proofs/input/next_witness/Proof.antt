@@ -16,8 +16,11 @@ enum-known-got c = search needs
 within : (t : tie.After-known-told) → t .before .got .given .0 .0 ≤ witness-bytes
 within t = counted (t .before .got .given .1) (t .before .before .before .next-count .ensures)
 
-fills-requires : tie.Need-fills-requires
-fills-requires c κs = omega (arith, within (c .before))
+fill-requires : tie.Need-fill-requires
+fill-requires c κs = omega (arith, within (c .before))
+
+enum-known-fault : tie.Need-enum-known-fault
+enum-known-fault c = search needs
 
 returns : tie.Need-returns
 returns c = search needs
@@ -25,8 +28,11 @@ returns c = search needs
 enum-told : tie.Need-enum-told
 enum-told c = search needs
 
+enum-told-2 : tie.Need-enum-told-2
+enum-told-2 c = search needs
+
 returns-2 : tie.Need-returns-2
-returns-2 c = within (c .before .before .before)
+returns-2 c = within (c .before .before .before .before)
 
 returns-3 : tie.Need-returns-3
 returns-3 c = search needs
@@ -37,8 +43,10 @@ next-witness-spec =
     (tie.spec
     next-count-requires
     enum-known-got
-    fills-requires
+    fill-requires
+    enum-known-fault
     returns
     enum-told
+    enum-told-2
     returns-2
     returns-3)

@@ -9,7 +9,7 @@ use lib.Dec.{ltb}
 use lib.ListN.{length, take, length-take}
 use lib.Seq.{take-suc, take-all}
 use Rattle.meaning.specs.Problem.{Problem, Latch, latch}
-use Rattle.meaning.specs.Counts.{fixed-resets}
+use Rattle.meaning.proofs.ClosedForms.{fixed-resets}
 use Rattle.problem.specs.Promise.{problem-in}
 use Rattle.problem.proofs.Outlines.{shows}
 use Rattle.encoder.proofs.CountingOneMore.{those-few, those-more}

@@ -21,7 +21,8 @@ returns c =
     let cs = c .before in
     let vs = cs .before in
     let t = vs .before .tallied .ensures in
-    rw (vs .variables-in .ensures, cs .clauses-in .ensures, c .words-in .ensures, variables-counted t, clauses-counted t, words-counted t)
+    let proper = vs .before .before .before .pre .proper in
+    rw (vs .variables-in .ensures, cs .clauses-in .ensures, c .words-in .ensures, variables-counted t proper, clauses-counted t, words-counted t)
 
 pub count-good-spec : {M : Type 1} → statement M
 count-good-spec =

@@ -1,11 +1,11 @@
 -- `write_good` meets its contract. Assumes nothing.
 use borrow.Author.Needs.{needs}
-use mathlib.Core.Path.{_≡_}
+use mathlib.Core.Path.{_≡_, _∙_}
 use lib.ListN.{length}
 use Rattle.meaning.specs.Problem.{Problem}
 use Rattle.meaning.specs.Cnf.{cnf-words}
 use Rattle.problem.specs.Promise.{problem-in}
-use Rattle.encoder.proofs.ClosedForms.{words-of-cnf}
+use Rattle.encoder.proofs.ClosedForms.{words-counted}
 use Rattle.encoder.proofs.RoomAnswers.{room-suffices, too-small, all-written}
 use Rattle.encoder.proofs.encode.write_good.Statement.{statement}
 use Rattle.encoder.proofs.encode.write_good.Tie as tie
@@ -19,7 +19,7 @@ abbrev p : tie.After-words-in → Problem
 p c = problem-in (start c .args .s) (start c .args .words .now)
 
 needed : (c : tie.After-words-in) → c .words-in .result ≡ length (cnf-words (p c))
-needed c = words-of-cnf (c .before .tallied .ensures) (c .words-in .ensures)
+needed c = c .words-in .ensures ∙ words-counted (c .before .tallied .ensures)
 
 -- ════════ The needs ════════
 

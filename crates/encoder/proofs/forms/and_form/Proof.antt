@@ -1,5 +1,7 @@
 -- `and_form` meets its contract. Assumes nothing.
 use borrow.Author.Needs.{needs}
+use Rattle.meaning.proofs.Duals.{and-is-dual}
+use Rattle.encoder.proofs.OneAfterAnother.{wrote-by}
 use Rattle.encoder.proofs.MachineLiterals.{word-is, turned-fits, turned-negatable, negation-is}
 use Rattle.encoder.proofs.forms.and_form.Statement.{statement}
 use Rattle.encoder.proofs.forms.and_form.Tie as tie
@@ -21,11 +23,12 @@ same-length c = search needs
 
 returns : tie.Need-returns
 returns c =
-    let n = c .before .before .before .pre in
+    let start = c .before .before .before in
+    let n = start .pre in
     let hx = n .1 in
     let ha = n .2 in
     let hb = n .3 in
-    simp (word-is, negation-is) at (c .before .or-form .ensures)
+    wrote-by (and-is-dual (start .args .x) (start .args .a) (start .args .b)) (simp (word-is, negation-is) at (c .before .or-form .ensures))
 
 pub and-form-spec : {M : Type 1} → statement M
 and-form-spec =

@@ -1,5 +1,7 @@
 -- `release_form` meets its contract. Assumes nothing.
 use borrow.Author.Needs.{needs}
+use Rattle.meaning.proofs.Duals.{release-is-dual}
+use Rattle.encoder.proofs.OneAfterAnother.{wrote-by}
 use Rattle.encoder.proofs.MachineLiterals.{word-is, turned-fits, turned-negatable, negation-is}
 use Rattle.encoder.proofs.forms.release_form.Statement.{statement}
 use Rattle.encoder.proofs.forms.release_form.Tie as tie
@@ -24,12 +26,13 @@ same-length c = search needs
 
 returns : tie.Need-returns
 returns c =
-    let n = c .before .before .before .pre in
+    let start = c .before .before .before in
+    let n = start .pre in
     let hx = n .1 in
     let ha = n .2 in
     let hb = n .3 in
     let hy = n .4 in
-    simp (word-is, negation-is) at (c .before .until-form .ensures)
+    wrote-by (release-is-dual (start .args .x) (start .args .a) (start .args .b) (start .args .y)) (simp (word-is, negation-is) at (c .before .until-form .ensures))
 
 pub release-form-spec : {M : Type 1} → statement M
 release-form-spec =

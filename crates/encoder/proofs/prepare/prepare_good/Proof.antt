@@ -13,7 +13,7 @@ use Rattle.clauses.proofs.Answers.{passing, steps-counted}
 use Rattle.clauses.proofs.ReadBack.{steps-fewer}
 use Rattle.refutation.specs.Promise.{counted-answer}
 use Rattle.meaning.specs.Problem.{Problem}
-use Rattle.meaning.specs.Check.{Proper}
+use Rattle.meaning.specs.Proper.{Proper}
 use Rattle.problem.specs.Promise.{problem-in}
 use Rattle.encoder.specs.declared.Counts.{Counts}
 use Rattle.encoder.specs.Promise.{counts-of}

@@ -3,7 +3,8 @@ use Prim.Native.Nat.{_+_, _≤_}
 use native.Mathlib.Omega.{arith}
 use borrow.Author.Needs.{needs}
 use lib.ListN.{length}
-use Rattle.refutation.proofs.JudgeCounted.{cnf-right, cleared-older, numbers-after, clauses-room, clauses-after, standing-start}
+use Rattle.clauses.proofs.CnfPassed.{cnf-right}
+use Rattle.refutation.proofs.JudgeCounted.{cleared-older, numbers-after, clauses-room, clauses-after, standing-start}
 use Rattle.refutation.proofs.judge.judge_counted.Statement.{statement}
 use Rattle.refutation.proofs.judge.judge_counted.Tie as tie
 

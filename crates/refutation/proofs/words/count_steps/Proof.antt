@@ -10,10 +10,11 @@ use lib.ListN.{length, getD}
 use mir.Syntax.{w32}
 use mir.Val.{SFits}
 use Rattle.clauses.specs.Answers.{first-failing, granted}
-use Rattle.clauses.specs.Refutations.{word-right, refutation-checks, steps-of}
+use Rattle.clauses.specs.Refutations.{refutation-checks, steps-of}
 use Rattle.clauses.proofs.Signs.{word-is, at-0, not-0}
+use Rattle.clauses.proofs.WordByWord.{right-in}
 use Rattle.refutation.proofs.Scan.{rest, at-cut, at-end, at-wrong, at-right}
-use Rattle.refutation.proofs.CountSteps.{tally, step-ended, step-left, tally-0, tally-other, part-of, reader, read-refutation}
+use Rattle.refutation.proofs.CountSteps.{tally, step-ended, step-left, tally-0, tally-other, part-of, right-by-part, reader, read-refutation}
 use Rattle.refutation.proofs.words.count_steps.Statement.{statement}
 use Rattle.refutation.proofs.words.count_steps.Tie as tie
 
@@ -59,8 +60,12 @@ fits c = record { sfits = c .w .given }
 result-is : (c : tie.After-word-right Inv-loop μ-loop)
     → let read = c .before in
     c .word-right .result
-    ≡ word-right (entry read .args .variables) (part-of (turn read .loop .hints)) (suc (entry read .args .clauses + turn read .loop .steps)) (word-read read)
-result-is c = rw (word-is _ (fits (c .before))) at (c .word-right .ensures)
+    ≡ right-in (entry read .args .variables) (part-of (turn read .loop .hints)) (suc (entry read .args .clauses + turn read .loop .steps)) (word-read read)
+result-is c =
+    let read = c .before in
+    let now = turn read .loop in
+    rw (word-is _ (fits read)) at (c .word-right .ensures)
+    ∙ right-by-part (entry read .args .variables) (suc (entry read .args .clauses + now .steps)) (now .hints) (word-read read)
 
 returns : tie.Need-returns Inv-loop μ-loop
 returns c =

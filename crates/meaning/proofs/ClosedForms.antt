@@ -1,23 +1,13 @@
--- The numbers of variables, clauses and words of a problem's CNF, in closed form. Assumes nothing.
+-- The numbers of variables, clauses and words of a problem's CNF, in closed form. Nobody has to believe them: they are proved equal to those
+-- of the CNF itself, V for a problem with a node (`variable-count-is`, `clause-count-is`, `word-count-is` of proofs/Counts), and no promise names
+-- them. Assumes nothing.
 use mathlib.Core.Bool.{Bool, true, false}
 use mathlib.Core.List.{List, [], _∷_}
-use Prim.Native.Nat.{ℕ, suc, max, _+_, _*_, _-_, _/_}
+use Prim.Native.Nat.{ℕ, suc, _+_, _*_, _-_, _/_}
 use lib.Dec.{ltb}
 use lib.ListN.{length}
 use Rattle.clauses.specs.Lists.{those, sum}
-use Rattle.clauses.specs.Clauses.{Clause, variable-of}
 use Rattle.meaning.specs.Problem.{Problem, Latch, Node, W, atom, both, either, next, until, release}
-
--- ════════ The numbers of a list of clauses ════════
-
--- The largest number of a variable that stands in the clauses.
-abbrev pub largest-in : Clause → ℕ
-largest-in [] = 0
-largest-in (w ∷ ws) = max (variable-of w) (largest-in ws)
-
-abbrev pub largest-variable : List Clause → ℕ
-largest-variable [] = 0
-largest-variable (c ∷ cs) = max (largest-in c) (largest-variable cs)
 
 -- ════════ What is counted in the problem ════════
 
