@@ -1,6 +1,6 @@
 -- The page to trust: the three demands as theorems of the calls of document 01, each stated in full and proved by the theorem that it names.
--- What is to be believed is the definitions that the statements name, all of them in crates/*/specs. OtherCalls has the other public functions.
--- Assumes nothing.
+-- That a call keeps the promise that a theorem asks for is its `ensures`, in crates/*/src; what is to be believed besides is the definitions that
+-- the statements name (docs/PROMISES.md lists both). Assumes nothing.
 use mathlib.Core.{Path._≡_, List.List, List.List·Memᴰ, Logic._↔_}
 use mathlib.Core.Bool.{Bool, true, false, _&&_, _||_}
 use Prim.Native.Nat.{ℕ, suc, _+_, _-_, _^_, _≤_, _<_}
@@ -16,13 +16,14 @@ use Rattle.refutation.specs.Promise.{Judged}
 use Rattle.meaning.specs.Problem as problems
 use Rattle.meaning.specs.Problem.{Problem, problem, node}
 use Rattle.meaning.specs.Runs.{Position, StartsRight, EndlessRun}
-use Rattle.meaning.specs.Formulas.{Formula, until, release, formula, Holds}
+use Rattle.meaning.specs.Formulas.{Formula, atom, until, release, formula, Holds}
 use Rattle.meaning.specs.Bounded.{prefix, lasso, prefix-value}
+use Rattle.meaning.specs.Witnesses as witnesses
 use Rattle.meaning.specs.Witnesses.{witness-length, byte, shape, first-latches, inputs-at, Closes, lasso-path, Witness}
 use Rattle.meaning.specs.Cnf.{cnf, cnf-words, variables}
 use Rattle.meaning.specs.Calls.{WellFormed, judge-bytes, judge-witness, judge-refutation}
 use Rattle.meaning.specs.JobFile.{printed}
-use Rattle.meaning.specs.Cases.{Case, thirteen-cases, limit-words}
+use Rattle.meaning.specs.Cases.{Case, thirteen-cases, AtAllLimits, limit-words}
 use Rattle.meaning.proofs.Check.{proper-if-well-formed}
 use Rattle.pairing.specs.{Bounds.at-bound, Bounds.Counted, Pairs.Model, Pairs.PairsOff, Pairs.WitnessAtOrBelow}
 use Rattle.pairing.specs.{WithoutLoop.StrictWitness, Refutable.AcceptedRefutation}
@@ -95,7 +96,7 @@ pub written-only : (version : ℕ) (ws : List ℕ) (before : List ℤ) {r : Enco
     → {n : ℕ} → r ≡ Written n → WellFormed version ws × (length (cnf-words (problem version ws)) ≤ length before)
 written-only = Rattle.checker.proofs.CallsMean.written-only
 
--- Its numbers of variables, clauses and words, counted without it.
+-- Its numbers of variables, clauses and words.
 pub cnf-counted : (version : ℕ) (ws : List ℕ) {r : ProblemCounted} → CountedAs version ws r
     → (r ≡ counts.Good (record { variables = variables (problem version ws); clauses = length (cnf (problem version ws)); words = length (cnf-words (problem version ws)) }))
     ↔ WellFormed version ws
@@ -105,9 +106,16 @@ cnf-counted = Rattle.checker.proofs.CallsMean.cnf-counted
 pub cnf-read-back : (version : ℕ) (ws : List ℕ) → WellFormed version ws → clauses-of (cnf-words (problem version ws)) ≡ cnf (problem version ws)
 cnf-read-back version ws formed = Rattle.meaning.proofs.ReadBack.cnf-read-back (problem version ws) (proper-if-well-formed version ws formed)
 
--- "At all limits, with every reset fixed and 63 U or R nodes over one atom, the CNF has 437,012 words."
-pub at-all-limits : WellFormed 1 limit-words × (length (cnf-words (problem 1 limit-words)) ≡ 437_012)
-at-all-limits = (Rattle.meaning.proofs.AllLimits.limits-formed, Rattle.meaning.proofs.AllLimits.limits-counted .2)
+-- "At all limits, with every reset fixed and 63 U or R nodes over one atom, the CNF has 437,012 words": each such problem's. There is one, and no CNF
+-- has more.
+pub at-all-limits : (p : Problem) → AtAllLimits p → length (cnf-words p) ≡ 437_012
+at-all-limits = Rattle.meaning.proofs.AllLimits.at-all-limits
+
+pub limits-reached : WellFormed 1 limit-words × AtAllLimits (problem 1 limit-words)
+limits-reached = (Rattle.meaning.proofs.AllLimits.limits-formed, Rattle.meaning.proofs.AllLimits.limits-reached)
+
+pub largest-cnf : (version : ℕ) (ws : List ℕ) → WellFormed version ws → length (cnf-words (problem version ws)) ≤ 437_012
+largest-cnf = Rattle.meaning.proofs.AllLimits.largest-cnf
 
 -- "A run is accepted exactly if it is a witness by the bounded meaning of LTL": of the bytes, of words and bytes, and of the call.
 pub accepted-is-witness : (p : Problem) (bs : List ℕ) → (judge-bytes p bs ≡ granted 0) ↔ Witness p bs
@@ -167,7 +175,10 @@ module _ (k : ℕ) (rows : ℕ → List Bool) where
         ↔ ((j : ℕ) × (i ≤ j) × (j ≤ k) × (prefix-value k rows f j ≡ true) × ((m : ℕ) → i ≤ m → m ≤ j → prefix-value k rows g m ≡ true))
     release-on-prefix = Rattle.pairing.proofs.Prefixes.release-on-prefix k rows f g i
 
--- "So G is never true of a prefix": where the last node is G of another, no witness is a prefix.
+-- "So G is never true of a prefix": of no formula, at no position of a run; and where the last node is G of another, no witness is a prefix.
+pub G-never-of-run : (p : Problem) (bs : List ℕ) (g : Formula) (i : ℕ) → prefix-value (p .bound) (witnesses.rows p bs) (release (atom 0) g) i ≡ false
+G-never-of-run = Rattle.pairing.proofs.Prefixes.G-never-of-run
+
 pub G-never-shown : (version : ℕ) (ws : List ℕ) → WellFormed version ws → (a : ℕ)
     → node (problem version ws) (length (problem version ws .nodes) - 1) ≡ problems.release (problems.constant false) a
     → (bs : List ℕ) → Witness (problem version ws) bs → shape bs ≡ prefix → ⊥
@@ -177,8 +188,8 @@ G-never-shown version ws formed = Rattle.pairing.proofs.Prefixes.G-never-shown 
 pub as-document-000 : (p : Problem) → ((bs : List ℕ) × Witness p bs) ↔ ((bs : List ℕ) × StrictWitness p bs)
 as-document-000 = Rattle.pairing.proofs.WithoutLoop.as-document-000
 
--- "The thirteen marked cases": each has as many witnesses as the table says.
-pub thirteen : (c : Case) → List·Memᴰ c thirteen-cases → Counted (problem 1 (c .words)) (c .count)
+-- "The thirteen marked cases": each is well formed and has as many witnesses as the table says.
+pub thirteen : (c : Case) → List·Memᴰ c thirteen-cases → WellFormed 1 (c .words) × Counted (problem 1 (c .words)) (c .count)
 thirteen = Rattle.pairing.proofs.Thirteen.thirteen
 
 -- ════════ Demand 3 ════════
@@ -223,7 +234,7 @@ pub problem-refutable : (version : ℕ) (ws : List ℕ) → WellFormed version w
     → Refutation (variables (problem version ws)) (cnf (problem version ws))
 problem-refutable version ws formed = Rattle.pairing.proofs.AtOrBelow.problem-refutable (problem version ws) (proper-if-well-formed version ws formed)
 
--- And the running judges accept it as words, wherever they are lent the room that it needs: the judge for any CNF that 16 passes,
+-- And there are words that the judges accept, wherever they are lent the room that these need: the judge for any CNF that 16 passes,
 pub refutable-judged : (v : ℕ) (cnf : List ℤ) → first-failing (cnf-checks v cnf) (granted 0) ≡ granted 0
     → ((a : Assignment) → length a ≡ v → Satisfies a (clauses-of cnf) → ⊥)
     → (a : AcceptedWords v cnf)
@@ -241,7 +252,8 @@ pub refutable-call : (version : ℕ) (ws : List ℕ) → WellFormed version ws �
     → JudgedAs version ws (a .words) room numbers clauses r room′ numbers′ clauses′ → r ≡ problem-judge.Yes)
 refutable-call = Rattle.checker.proofs.Refutable.refutable-call
 
--- Its words are numbers of 32 bits with a sign where the variables are, and the clauses and the steps together.
+-- A call can be handed them where each fits a word of 32 bits. By `WordsFit`, which both records hold, it does where V is below 2^31 and so are the
+-- clauses and steps together. (Nothing is said of how many steps they have.)
 pub words-below : (v : ℕ) (cs : List Clause) (words : List ℤ) → WordsFit v cs words → v < 2 ^ 31 → length cs + length (steps-of words) < 2 ^ 31
     → (i : ℕ) → i < length words → size (getD words i (pos 0)) < 2 ^ 31
 words-below = Rattle.clauses.proofs.WordSizes.words-below

@@ -1,4 +1,5 @@
--- The public functions that the calls of document 01 are made of: each has one answer too. Assumes nothing.
+-- The functions that the calls of document 01 are made of: each has one answer too. Those whose promise is an equation are not named here.
+-- Assumes nothing.
 use mathlib.Core.{Path._≡_, List.List}
 use Prim.Native.Nat.{ℕ}
 use lib.{IntN.ℤ}

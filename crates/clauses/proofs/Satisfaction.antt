@@ -3,8 +3,9 @@ use mathlib.Core.Path.{_≡_, refl, sym, _∙_, ap}
 use mathlib.Core.Logic.{_⊎_, inl, inr}
 use mathlib.Core.Bool.{Bool, true, false, not, _&&_, _||_, false≢true, true≢false, and-assoc, or-assoc, Bool·not-not, cond}
 use mathlib.Core.List.{List, [], _∷_, _++_, map, List·Memᴰ, List·Memᴰ·head, List·Memᴰ·tail, List·Memᴰ·cases-cons, Memᴰ·cast}
-use Prim.Native.Nat.{ℕ, zero, suc, _<_, zero-le, suc-le-suc}
+use Prim.Native.Nat.{ℕ, zero, suc, _≤_, _<_, zero-le, suc-le-suc}
 use native.Mathlib.Nat.{le-of-suc-le-suc, not-suc-le-zero}
+use native.Mathlib.Omega.{arith}
 use borrow.Author.Tests.{not-true, eqb-true, eq-eqb}
 use lib.IntN.{ℤ, pos, negsuc, negℤ-negℤ}
 use lib.Dec.{eqb}
@@ -141,6 +142,15 @@ module _ {A : Type 0} (f : A → Bool) where
           → List·Memᴰ x (y ∷ xs)
       go true q later = there later (List·Memᴰ·cases-cons q)
       go false q later = List·Memᴰ·tail (later q)
+
+  -- No more elements pass a test than there are.
+  pub those-few : (xs : List A) → length (those f xs) ≤ length xs
+  those-few [] = omega arith
+  those-few (x ∷ xs) = go (f x) (those-few xs)
+    where
+      go : (b : Bool) → length (those f xs) ≤ length xs → length (cond b (x ∷ those f xs) (those f xs)) ≤ length (x ∷ xs)
+      go true h = omega arith
+      go false h = omega arith
 
   pub those-append : (xs ys : List A) → those f (xs ++ ys) ≡ those f xs ++ those f ys
   those-append [] ys = refl

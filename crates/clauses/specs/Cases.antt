@@ -30,7 +30,7 @@ T-cnf =
 abbrev pub T-steps : List ℤ
 T-steps = pos 0 ∷ pos 2 ∷ pos 12 ∷ pos 5 ∷ pos 0 ∷ []
 
-T-refuted : judge-cnf 6 T-cnf T-steps 7 13 ≡ answer 0 0
+pub T-refuted : judge-cnf 6 T-cnf T-steps 7 13 ≡ answer 0 0
 unfolding judge-cnf refutation-checks area-checks step-accepted cnf-checks variables-limit
 T-refuted = refl
 
@@ -38,7 +38,7 @@ T-refuted = refl
 abbrev pub T-other-steps : List ℤ
 T-other-steps = pos 0 ∷ pos 12 ∷ pos 5 ∷ pos 0 ∷ []
 
-T-refused : judge-cnf 6 T-cnf T-other-steps 7 13 ≡ answer 13 0
+pub T-refused : judge-cnf 6 T-cnf T-other-steps 7 13 ≡ answer 13 0
 unfolding judge-cnf refutation-checks area-checks step-accepted cnf-checks variables-limit
 T-refused = refl
 

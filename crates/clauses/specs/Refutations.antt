@@ -154,7 +154,7 @@ closing-checks ss = check (last-is-empty ss) (not-closed (length ss)) ∷ []
 unfoldable pub judge-steps : List Clause → List Step → Answer
 judge-steps cs ss = first-failing-part (step-checks cs 0 ss ∷ closing-checks ss ∷ []) (granted 0)
 
--- "Work areas: one word for each number 0..V, and one for each clause and step."
+-- "Work areas, of 64-bit words: one word for each number 0..V, and one for each clause and step."
 abbrev pub numbers-area : ℕ → ℕ
 numbers-area variables = suc variables
 

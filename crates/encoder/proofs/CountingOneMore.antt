@@ -2,25 +2,17 @@
 use mathlib.Core.Path.{_≡_, refl, _∙_, ap}
 use mathlib.Core.Bool.{Bool, true, false, cond}
 use mathlib.Core.List.{List, [], _∷_, _++_}
-use Prim.Native.Nat.{_+_, _^_, _≤_, _<_}
+use Prim.Native.Nat.{_+_, _^_, _<_}
 use native.Mathlib.Omega.{arith}
 use lib.ListN.{length, length-append}
 use Rattle.clauses.specs.Lists.{those}
-use Rattle.clauses.proofs.Satisfaction.{those-append}
+use Rattle.clauses.proofs.Satisfaction.{those-few, those-append}
 use Rattle.meaning.specs.Problem.{Node}
 use Rattle.meaning.proofs.ClosedForms.{has-equal-form, has-or-form, has-until-form}
 use Rattle.encoder.specs.declared.count.Forms.{Forms}
 use Rattle.encoder.specs.Counting.{FormsOf, FewForms, Added}
 
 module _ {A : Type 0} (t : A → Bool) where
-  pub those-few : (xs : List A) → length (those t xs) ≤ length xs
-  those-few [] = omega arith
-  those-few (x ∷ xs) = go (t x) (those-few xs)
-    where
-      go : (b : Bool) → length (those t xs) ≤ length xs → length (cond b (x ∷ those t xs) (those t xs)) ≤ length (x ∷ xs)
-      go true h = omega arith
-      go false h = omega arith
-
   -- One element more.
   pub those-more : (xs : List A) (x : A) → length (those t (xs ++ (x ∷ []))) ≡ length (those t xs) + cond (t x) 1 0
   those-more xs x = ap length (those-append t xs (x ∷ [])) ∙ length-append (those t xs) (those t (x ∷ [])) ∙ go (t x)

@@ -6,6 +6,7 @@ use native.Mathlib.Nat.{mul-le-mul, mul-le-mul-left, mul-le-mul-right}
 use native.Mathlib.Omega.{arith}
 use lib.Dec.{ltb}
 use lib.ListN.{length}
+use Rattle.clauses.proofs.Satisfaction.{those-few}
 use Rattle.meaning.specs.Limits.{inputs-limit, latches-limit, gates-limit, nodes-limit, bound-limit}
 use Rattle.meaning.specs.Problem.{Problem, Latch, W}
 use Rattle.meaning.specs.Proper.{Proper}
@@ -16,7 +17,6 @@ use Rattle.encoder.specs.declared.count.Forms.{Forms}
 use Rattle.encoder.specs.declared.count.Tally as counted
 use Rattle.encoder.specs.declared.count.Weights.{Weights}
 use Rattle.encoder.specs.Counting.{FormsOf, Few, Light, heaviest, Tallied, tally-of}
-use Rattle.encoder.proofs.CountingOneMore.{those-few}
 
 -- ════════ What is multiplied ════════
 

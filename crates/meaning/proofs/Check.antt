@@ -7,17 +7,18 @@ use Prim.Native.Nat.{ℕ, zero, suc, _+_, _*_, _≤_, _<_, zero-le}
 use native.Mathlib.Omega.{arith}
 use borrow.Author.Tests.{leb-true, le-leb, ltb-true, lt-ltb, eqb-true, eq-eqb}
 use lib.Dec.{leb, lit<}
-use lib.ListN.{length, getD, List·getD-eq-default}
+use lib.ListN.{length, getD}
 use Rattle.clauses.specs.Lists.{all-of, joined}
 use Rattle.clauses.specs.Answers.{Answer, Check, check, first-failing, first-failing-part, granted}
 use Rattle.clauses.proofs.Satisfaction.{both-true, false-if-not-true, all-of-at, first-true, second-true}
 use Rattle.clauses.proofs.Answers.{passing, refusing, first-failing-passed, first-failing-joined, parts-append, all-pass-if-yes, number-of}
-use Rattle.meaning.specs.Problem.{Problem, atom, W, latch, gate, node, Outline, outline, word, node-place, children, node-of, read-latch, read-gate, read-node, problem-by, problem}
+use Rattle.meaning.specs.Problem.{Problem, W, Outline, outline, word, node-place, children, node-of, problem-by, problem}
 use Rattle.meaning.specs.Check.{largest-literal, first-right, second-right, children-of, header-checks, limit-check, limit-checks, length-checks, latch-checks, gate-checks, node-checks}
 use Rattle.meaning.specs.Proper.{LatchRight, GateRight, FirstRight, SecondRight, NodeRight, InLimits, RulesMet, NodeProper, Proper}
 use Rattle.meaning.specs.Calls.{check-parts, check-problem, WellFormed}
 use Rattle.meaning.proofs.ItemByItem.{_and_, all-of-joined}
-use Rattle.meaning.proofs.Numbers.{length-map-numbers, getD-map-numbers, all-of-each-below, all-of-below}
+use Rattle.meaning.proofs.Numbers.{all-of-each-below, all-of-below}
+use Rattle.meaning.proofs.ShownBy.{inputs-by, bound-by, latches-by, gates-by, nodes-by, W-by, latch-by, gate-by, node-by}
 
 -- ════════ Tests and checks in general ════════
 
@@ -222,54 +223,6 @@ not-well-formed version ws a b n =
     rw (checked-by-all version ws a, checked-by-all version ws b)
     (first-failing-refused (all-checks version ws) a b
     (false-if-not-true (all-of passing (all-checks version ws)) (λ e. n (well-formed-if-all-pass version ws e))))
-
--- ════════ What the problem of an outline holds ════════
-
-module _ (o : Outline) (ws : List ℕ) where
-  pub inputs-by : problem-by o ws .inputs ≡ o .inputs
-  unfolding problem-by
-  inputs-by = refl
-
-  pub bound-by : problem-by o ws .bound ≡ o .bound
-  unfolding problem-by
-  bound-by = refl
-
-  pub latches-by : length (problem-by o ws .latches) ≡ o .latches
-  unfolding problem-by
-  latches-by = length-map-numbers (read-latch o ws) 0 (o .latches)
-
-  pub gates-by : length (problem-by o ws .gates) ≡ o .gates
-  unfolding problem-by
-  gates-by = length-map-numbers (read-gate o ws) 0 (o .gates)
-
-  pub nodes-by : length (problem-by o ws .nodes) ≡ o .nodes
-  unfolding problem-by
-  nodes-by = length-map-numbers (read-node o ws) 0 (o .nodes)
-
-  pub W-by : W (problem-by o ws) ≡ o .inputs + o .latches + o .gates
-  W-by = rw (inputs-by, latches-by, gates-by)
-
-  pub latch-by : (i : ℕ) → i < o .latches → latch (problem-by o ws) i ≡ read-latch o ws i
-  unfolding problem-by
-  latch-by i l = getD-map-numbers (read-latch o ws) (o .latches) i _ l
-
-  pub gate-by : (j : ℕ) → j < o .gates → gate (problem-by o ws) j ≡ read-gate o ws j
-  unfolding problem-by
-  gate-by j l = getD-map-numbers (read-gate o ws) (o .gates) j _ l
-
-  pub node-by : (n : ℕ) → n < o .nodes → node (problem-by o ws) n ≡ read-node o ws n
-  unfolding problem-by
-  node-by n l = getD-map-numbers (read-node o ws) (o .nodes) n _ l
-
-  -- Past the end.
-  pub latch-past : (i : ℕ) → o .latches ≤ i → latch (problem-by o ws) i ≡ record { next = 0; reset = 2 }
-  latch-past i l = List·getD-eq-default (problem-by o ws .latches) _ (rw latches-by l)
-
-  pub gate-past : (j : ℕ) → o .gates ≤ j → gate (problem-by o ws) j ≡ record { left = 0; right = 0 }
-  gate-past j l = List·getD-eq-default (problem-by o ws .gates) _ (rw gates-by l)
-
-  pub node-past : (n : ℕ) → o .nodes ≤ n → node (problem-by o ws) n ≡ atom 0
-  node-past n l = List·getD-eq-default (problem-by o ws .nodes) _ (rw nodes-by l)
 
 -- ════════ The problem of well-formed words is proper ════════
 

@@ -82,7 +82,7 @@ room-after-writing a version ws room = cond (eqb (a .number) 0) (written (cnf-wo
 unfoldable pub judge-bytes : Problem → List ℕ → Answer
 judge-bytes p bs = first-failing-part (witness-parts p bs) (granted 0)
 
--- "Witness judging changes nothing."
+-- Of words that nobody has checked yet. "Witness judging changes nothing."
 unfoldable pub judge-witness : ℕ → List ℕ → List ℕ → Answer
 judge-witness version ws bs = first-failing-part (check-parts version ws ++ witness-parts (problem version ws) bs) (granted 0)
 

@@ -1,14 +1,14 @@
--- Document 01's cases: T whole and the thirteen counts of witnesses, each by computing, and the words at all limits. Assumes nothing.
+-- Document 01's cases: T whole and the thirteen counts of witnesses, each by computing, and the problems at all limits. Assumes nothing.
 use mathlib.Core.List.{List, [], _∷_, _++_, map}
 use mathlib.Core.Path.{_≡_, refl}
-use Prim.Native.Nat.{ℕ, _+_, _*_, _-_, _/_}
+use Prim.Native.Nat.{ℕ, _+_, _*_, _-_, _/_, _≤_, _<_}
 use lib.ListN.{length, replicate}
 use Rattle.clauses.specs.Lists.{numbers, each}
 use Rattle.clauses.specs.Answers.{answer}
 use Rattle.clauses.specs.Refutations.{refutation-checks, area-checks, step-accepted}
 use Rattle.clauses.specs.Cases.{T-cnf, T-steps, T-other-steps}
 use Rattle.meaning.specs.Limits.{inputs-limit, latches-limit, gates-limit, nodes-limit, bound-limit, job-limit, program-room}
-use Rattle.meaning.specs.Problem.{header-words, problem-by, problem}
+use Rattle.meaning.specs.Problem.{Problem, Node, atom, both, either, next, until, release, latch, node, header-words, problem-by, problem}
 use Rattle.meaning.specs.Runs.{values, next-values}
 use Rattle.meaning.specs.Formulas.{formula}
 use Rattle.meaning.specs.Witnesses.{run}
@@ -22,11 +22,11 @@ use Rattle.meaning.specs.JobFile.{job-words, job-checks, bytes-of, decim
 abbrev pub T-words : List ℕ
 T-words = 0 ∷ 1 ∷ 0 ∷ 1 ∷ 0 ∷ 3 ∷ 0 ∷ 0 ∷ 2 ∷ 0 ∷ []
 
-T-is-written : cnf-words (problem 1 T-words) ≡ T-cnf
+pub T-is-written : cnf-words (problem 1 T-words) ≡ T-cnf
 unfolding header-words problem-by problem cnf cnf-words
 T-is-written = refl
 
-T-has-variables : variables (problem 1 T-words) ≡ 6
+pub T-has-variables : variables (problem 1 T-words) ≡ 6
 unfolding header-words problem-by problem variables
 T-has-variables = refl
 
@@ -50,21 +50,21 @@ T-text =
     ++ bytes-of "-6 3 0\n"
     ++ bytes-of "4 0\n"
 
-T-is-printed : printed T-file ≡ T-text
+pub T-is-printed : printed T-file ≡ T-text
 unfolding header-words problem-by problem cnf cnf-words variables inputs-limit latches-limit gates-limit nodes-limit bound-limit job-limit program-room job-words job-checks decimal cnf-text refusal-line job-answer printed
 T-is-printed = refl
 
 -- "refused 15 at 0": a file of another version.
-other-version-is-refused : printed (9 ∷ 0 ∷ 0 ∷ 0 ∷ 0 ∷ []) ≡ bytes-of "refused 15 at 0\n"
+pub other-version-is-refused : printed (9 ∷ 0 ∷ 0 ∷ 0 ∷ 0 ∷ []) ≡ bytes-of "refused 15 at 0\n"
 unfolding header-words job-limit job-checks decimal refusal-line job-answer printed
 other-version-is-refused = refl
 
 -- "Refutation 0 2 12 5 0 is accepted; 0 12 5 0 is refused (13 at 0)."
-T-is-refuted : judge-refutation 1 T-words T-steps 38 7 13 ≡ answer 0 0
+pub T-is-refuted : judge-refutation 1 T-words T-steps 38 7 13 ≡ answer 0 0
 unfolding header-words problem-by problem cnf cnf-words variables inputs-limit latches-limit gates-limit nodes-limit bound-limit judge-refutation refutation-checks area-checks step-accepted
 T-is-refuted = refl
 
-T-is-not-refuted : judge-refutation 1 T-words T-other-steps 38 7 13 ≡ answer 13 0
+pub T-is-not-refuted : judge-refutation 1 T-words T-other-steps 38 7 13 ≡ answer 13 0
 unfolding header-words problem-by problem cnf cnf-words variables inputs-limit latches-limit gates-limit nodes-limit bound-limit judge-refutation refutation-checks area-checks step-accepted
 T-is-not-refuted = refl
 
@@ -124,10 +124,10 @@ thirteen-cases =
     ∷ case (one-free-latch 2 (atom-word 2 ++ always 0)) 1
     ∷ []
 
--- Each case is well formed, by the check, and has as many witnesses as it says, by the judge.
-thirteen-are-right : map (λ (c : Case). check-problem 1 (c .words)) thirteen-cases ≡ map (λ (c : Case). answer 0 0) thirteen-cases
+-- The check says yes to each case, and the judge to as many witnesses as it says.
+pub thirteen-are-formed : map (λ (c : Case). check-problem 1 (c .words)) thirteen-cases ≡ map (λ (c : Case). answer 0 0) thirteen-cases
 unfolding header-words inputs-limit latches-limit gates-limit nodes-limit bound-limit check-problem
-thirteen-are-right = refl
+thirteen-are-formed = refl
 
 pub thirteen-counts : map (λ (c : Case). length (witnesses (problem 1 (c .words)))) thirteen-cases ≡ map (λ (c : Case). c .count) thirteen-cases
 unfolding header-words problem-by problem values next-values formula run judge-bytes witnesses
@@ -135,8 +135,29 @@ thirteen-counts = refl
 
 -- ════════ At all limits ════════
 
--- "63 U or R nodes over one atom": node 0 is the atom 0, nodes 1 to 32 are 6 n n (U) and nodes 33 to 63 are 7 n n (R), each over the node n
--- before it.
+-- "63 U or R nodes": the node is U or R; F and G are among them.
+abbrev pub UntilOrRelease : Node → Type 0
+UntilOrRelease (atom x) = ⊥
+UntilOrRelease (both a b) = ⊥
+UntilOrRelease (either a b) = ⊥
+UntilOrRelease (next a) = ⊥
+UntilOrRelease (until a b) = Unit
+UntilOrRelease (release a b) = Unit
+
+-- "At all limits, with every reset fixed and 63 U or R nodes over one atom": such a problem's CNF has 437,012 words, and no well-formed words
+-- have a larger one (`at-all-limits` and `largest-cnf` of proofs/AllLimits).
+pub record AtAllLimits (p : Problem) : Type 0 where
+  pub inputs-are : p .inputs ≡ inputs-limit
+  pub latches-are : length (p .latches) ≡ latches-limit
+  pub resets-fixed : (i : ℕ) → i < latches-limit → latch p i .reset < 2
+  pub gates-are : length (p .gates) ≡ gates-limit
+  pub nodes-are : length (p .nodes) ≡ nodes-limit
+  pub one-atom : (x : ℕ) × (node p 0 ≡ atom x)
+  pub others : (n : ℕ) → 1 ≤ n → n < nodes-limit → UntilOrRelease (node p n)
+  pub bound-is : p .bound ≡ bound-limit
+
+-- Words of such a problem. "63 U or R nodes over one atom": node 0 is the atom 0, nodes 1 to 32 are 6 n n (U) and nodes 33 to 63 are
+-- 7 n n (R), each over the node n before it.
 abbrev pub limit-nodes : List ℕ
 limit-nodes =
     (0 ∷ 0 ∷ 0 ∷ [])
@@ -147,7 +168,7 @@ limit-nodes =
 abbrev pub limit-zeros : ℕ
 limit-zeros = 2 * latches-limit + 2 * gates-limit
 
--- "At all limits, with every reset fixed and 63 U or R nodes over one atom": its numbers are `limits-counted` of proofs/AllLimits.
+-- Their problem is at all limits (`limits-reached` of proofs/AllLimits); its numbers are `limits-counted`.
 unfoldable pub limit-words : List ℕ
 unfolding inputs-limit latches-limit gates-limit nodes-limit bound-limit
 limit-words = inputs-limit ∷ latches-limit ∷ gates-limit ∷ nodes-limit ∷ bound-limit ∷ (replicate limit-zeros 0 ++ limit-nodes)

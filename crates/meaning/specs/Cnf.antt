@@ -161,7 +161,7 @@ P-clauses p n (next a) i = equal-form (P p n i) (P p a (i + 1))
 P-clauses p n (until a b) i = until-form (P p n i) (left-at p a i) (P p b i) (P p n (i + 1))
 P-clauses p n (release a b) i = release-form (P p n i) (left-at p a i) (P p b i) (P p n (i + 1))
 
--- Where Q ends, and its value past k: -1 for F and U, 1 for G and R; ops 0 to 3 have none.
+-- "Q(n,k+1) is -1 for F and U, 1 for G and R"; ops 0 to 3 never read it.
 abbrev pub Q-end : Node → ℤ
 Q-end (atom x) = false-literal
 Q-end (both a b) = false-literal

@@ -59,7 +59,7 @@ bytes-of (c then cs) = code c ∷ bytes-of cs
 abbrev pub digit : ℕ → ℕ
 digit d = 48 + d
 
--- A number's decimal digits. It has at most as many digits as the first argument, which only bounds the recursion.
+-- A number's decimal digits. The first argument only bounds the recursion: it allows one digit more than it says.
 abbrev pub digits-within : ℕ → ℕ → List ℕ
 digits-within zero n = digit (n % 10) ∷ []
 digits-within (suc m) n =

@@ -1,4 +1,5 @@
--- Document 01, one module for each of its sections: the problem, its runs and meaning, witnesses, the CNF, refutations, the job file.
+-- Document 01 by its sections: the problem, its runs and meaning, witnesses, the CNF, the calls, the job file. Proper and LassoValue are laws of
+-- these, for contracts and for the judge.
 pub mod Limits
 pub mod Answers
 pub mod Problem

@@ -50,7 +50,7 @@ latch-variable p i = p .inputs + i + 1
 abbrev pub gate-variable : Problem → ℕ → ℕ
 gate-variable p j = p .inputs + length (p .latches) + j + 1
 
--- The latch, gate or node of a number; past the end a free latch that holds false, a gate that is false, the atom false.
+-- The latch, gate or node of a number; past the end a free latch whose next value is false, a gate that is false, the atom false.
 abbrev pub latch : Problem → ℕ → Latch
 latch p i = getD (p .latches) i (record { next = 0; reset = 2 })
 

@@ -1,5 +1,6 @@
 -- The CNF can be satisfied exactly if a witness exists at a bound from 0 to k; and what its refutations say. Assumes nothing.
 use mathlib.Core.Path.{_≡_, refl, sym, _∙_}
+use mathlib.Core.Logic.{_↔_}
 use mathlib.Core.List.{List}
 use Prim.Native.Nat.{ℕ, _≤_}
 use native.Mathlib.Nat.{le-refl}
@@ -7,7 +8,7 @@ use lib.IntN.{ℤ}
 use Rattle.clauses.specs.Answers.{first-failing, granted}
 use Rattle.clauses.specs.Clauses.{Assignment}
 use Rattle.clauses.specs.Refutable.{Refutation}
-use Rattle.clauses.proofs.Answers.{after-if-granted, clauses-judged, number-of}
+use Rattle.clauses.proofs.Answers.{after-if-granted, number-of}
 use Rattle.clauses.proofs.Sound.{refuted-clauses}
 use Rattle.clauses.proofs.Complete.{refutable}
 use Rattle.meaning.specs.Problem.{Problem, problem}
@@ -20,7 +21,7 @@ use Rattle.meaning.proofs.Check.{problem-checked, checked-if-well-formed, well-
 use Rattle.meaning.proofs.Calls.{refutation-by-clauses}
 use Rattle.meaning.proofs.Ranges.{literals-within}
 use Rattle.pairing.specs.Bounds.{at-bound}
-use Rattle.pairing.specs.Pairs.{Model, WitnessAtOrBelow, SatisfiableAtOrBelow}
+use Rattle.pairing.specs.Pairs.{Model, WitnessAtOrBelow}
 use Rattle.pairing.proofs.Longer.{witness-at-larger}
 use Rattle.pairing.proofs.PairsOff.{pairs-off}
 
@@ -40,7 +41,7 @@ module _ (p : Problem) (proper : Proper p) where
       let larger = witness-at-larger p (w .at) (p .bound) (w .within) (w .bytes) (w .witness) in
       (pairs-off p proper .model-of (larger .0), pairs-off p proper .to-model (larger .0) (larger .1))
 
-  pub satisfiable-at-or-below : SatisfiableAtOrBelow p
+  pub satisfiable-at-or-below : ((a : Assignment) × Model p a) ↔ WitnessAtOrBelow p
   satisfiable-at-or-below = (λ m. witness-if-model (m .0) (m .1), model-if-witness)
 
 -- ════════ Refutations ════════

@@ -138,6 +138,10 @@ G-never-on-prefix k rows zero-false g i = false-if-not-true _ (λ e.
     let w = release-on-prefix k rows (atom 0) g i .0 e in
     not-both (second-true (leb (w .0) k) (literal-value (rows (w .0)) 0) (w .3)) (zero-false (w .0)))
 
+-- So of every run: G of no formula is true at any position of a prefix.
+pub G-never-of-run : (p : Problem) (bs : List ℕ) (g : Formula) (i : ℕ) → prefix-value (p .bound) (rows p bs) (release (atom 0) g) i ≡ false
+G-never-of-run p bs = G-never-on-prefix (p .bound) (rows p bs) (values-zero-false p (position p bs))
+
 -- A problem whose formula is G has no prefix as a witness.
 pub G-never-shown : (p : Problem) → Proper p → (a : ℕ) → node p (length (p .nodes) - 1) ≡ Nodes.release (constant false) a
     → (bs : List ℕ) → Witness p bs → shape bs ≡ prefix → ⊥
@@ -146,4 +150,4 @@ G-never-shown p proper a is-G bs w is-prefix =
     let shown : Shows p bs prefix = rw is-prefix at (w .shows) in
     let G-is : formula p ≡ release (atom 0) (tree p a) =
     formula-is p ∙ tree-unfolds proper (length (p .nodes) - 1) (omega arith) ∙ ap (tree-of (trees-after [] (p .nodes))) is-G in
-    not-both (rw G-is at shown) (G-never-on-prefix (p .bound) (rows p bs) (values-zero-false p (position p bs)) (tree p a) 0)
+    not-both (rw G-is at shown) (G-never-of-run p bs (tree p a) 0)

@@ -1,4 +1,5 @@
--- What the theorems of this crate say that the crates below do not name: the laws of the node variables, models, bytes, bounds.
+-- What the theorems of this crate say that the crates below do not name: the laws of the node variables, models, bytes, bounds, document 000's
+-- witnesses, refutations that are accepted.
 pub mod NodeLaws
 pub mod ModelLaws
 pub mod Layout

@@ -1,6 +1,5 @@
 -- Demand 3: models of a problem's CNF and its witnesses pair off, and both are there at the same bounds. Assumes nothing.
 use mathlib.Core.List.{List}
-use mathlib.Core.Logic.{_↔_}
 use mathlib.Core.Path.{_≡_}
 use Prim.Native.Nat.{ℕ, _≤_}
 use lib.ListN.{length}
@@ -34,7 +33,3 @@ pub record WitnessAtOrBelow (p : Problem) : Type 0 where
   pub bytes : List ℕ
   pub within : at ≤ p .bound
   pub witness : Witness (at-bound p at) bytes
-
--- "The CNF can be satisfied exactly if a witness exists at a bound from 0 to k."
-abbrev pub SatisfiableAtOrBelow : Problem → Type 0
-SatisfiableAtOrBelow p = ((a : Assignment) × Model p a) ↔ WitnessAtOrBelow p

@@ -6,7 +6,7 @@ use native.Mathlib.Omega.{arith}
 use lib.ListN.{length}
 use Rattle.meaning.specs.Limits.{inputs-limit, latches-limit, gates-limit, bound-limit}
 use Rattle.meaning.specs.Problem.{Problem, Latch, Gate, atom, latch, gate, node, word, latch-place, gate-place, read-node}
-use Rattle.meaning.proofs.Check.{inputs-by, bound-by, latches-by, gates-by, nodes-by, latch-by, gate-by, node-by, latch-past, gate-past, node-past}
+use Rattle.meaning.proofs.ShownBy.{inputs-by, bound-by, latches-by, gates-by, nodes-by, latch-by, gate-by, node-by, latch-past, gate-past, node-past}
 use Rattle.problem.specs.declared.Outline.{Outline}
 use Rattle.problem.specs.Promise.{outline-of, problem-in, ProperIn}
 

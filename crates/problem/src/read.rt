@@ -1,4 +1,4 @@
-// The parts of the problem that an outline shows in words. Each reader is total: past the end it reads what document 01's lists have there.
+// The parts of the problem that an outline shows in words. Each reader is total: past the end it reads what the definitions have there.
 use crate::Left;
 use crate::Node;
 use crate::Outline;

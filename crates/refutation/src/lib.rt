@@ -7,7 +7,7 @@ mod steps;
 mod values;
 pub mod words;
 
-// Document 01's answers to a refutation of a bare CNF; specs/Promise.antt gives the number of each.
+// Document 01's answers to a refutation of a bare CNF; `answer` gives the number and the place of each.
 pub enum RefutationAnswer {
     Yes,
     BadCnf(usize),

@@ -1,4 +1,4 @@
-//! Requests of kind `cases`: the cases T and H of document 01, and its thirteen counts.
+//! Requests of kind `cases`: the cases T and H of document 01, its thirteen counts, and words with two faults in one part.
 
 use super::problems::calls;
 use super::witnesses::every_witness;
@@ -51,6 +51,13 @@ pub fn counts() -> Vec<(Vec<u32>, usize)> {
     of_counter.chain(others).collect()
 }
 
+/// Two wrong words in one latch, in one gate, in one node: the first of the two decides.
+const TWO_FAULTS: [&[u32]; 3] = [
+    &[0, 1, 0, 1, 0, 9, 9, 0, 2, 0],
+    &[1, 0, 1, 1, 0, 9, 9, 0, 2, 0],
+    &[1, 0, 0, 1, 0, 0, 9, 9],
+];
+
 /// T's refutations, the accepted and the refused, as problem and as bare CNF.
 fn case_t(out: &mut Vec<Request>) {
     let problem = check(1, &T).expect("T is well formed");
@@ -84,6 +91,9 @@ pub fn requests(random: &mut Random, count: usize) -> Vec<Request> {
         case_t(&mut out);
         let mut problems: Vec<Vec<u32>> = counts().into_iter().map(|case| case.0).collect();
         problems.push(T.to_vec());
+        for words in TWO_FAULTS {
+            calls(random, 1, words, &mut out);
+        }
         for words in problems {
             every_witness(random, &words, &mut out);
             calls(random, 1, &words, &mut out);

@@ -12,7 +12,8 @@ use Rattle.meaning.specs.Problem.{Problem, Latch, latch}
 use Rattle.meaning.proofs.ClosedForms.{fixed-resets}
 use Rattle.problem.specs.Promise.{problem-in}
 use Rattle.problem.proofs.Outlines.{shows}
-use Rattle.encoder.proofs.CountingOneMore.{those-few, those-more}
+use Rattle.clauses.proofs.Satisfaction.{those-few}
+use Rattle.encoder.proofs.CountingOneMore.{those-more}
 use Rattle.encoder.proofs.count.count_resets.Statement.{statement}
 use Rattle.encoder.proofs.count.count_resets.Tie as tie
 
