@@ -29,17 +29,17 @@ use Rattle.pairing.specs.Bounds.{at-bound}
 use Rattle.pairing.proofs.Witnesses.{accepted-is-witness}
 use Rattle.pairing.proofs.Judged.{judged-is-witness}
 use Rattle.pairing.proofs.Endless.{lasso-true, prefix-true}
-use Rattle.problem.specs.declared.Outline.{Outline}
+use Rattle.counts.specs.declared.Counts.{Counts}
+use Rattle.counts.specs.Promise.{counts-of}
+use Rattle.problem.specs.declared.ProblemRecord.{ProblemRecord}
 use Rattle.problem.specs.declared.Checked.{Checked}
 use Rattle.problem.specs.declared.Checked.the-variants as checks
 use Rattle.problem.specs.Promise as checking
 use Rattle.problem.proofs.Unique.{refusal-not-yes}
 use Rattle.encoder.specs.declared.Encoded.{Encoded}
 use Rattle.encoder.specs.declared.Encoded.the-variants.{Written}
-use Rattle.encoder.specs.declared.ProblemCounted.{ProblemCounted}
-use Rattle.encoder.specs.declared.ProblemCounted.the-variants as counts
 use Rattle.encoder.specs.Promise as encoding
-use Rattle.encoder.proofs.Unique.{encoded-unique, counted-unique}
+use Rattle.encoder.proofs.Unique.{encoded-unique}
 use Rattle.witness.specs.declared.WitnessAnswer.{WitnessAnswer}
 use Rattle.witness.specs.declared.WitnessAnswer.the-variants as judgements
 use Rattle.witness.specs.Promise as witnessing
@@ -52,20 +52,20 @@ use Rattle.checker.proofs.ProblemRefutation.{judged-as-clauses, clauses
 -- ════════ The check ════════
 
 module _ (version : ℕ) (ws : List ℕ) where
-  pub check-good : {r : Checked} → checking.CheckedAs version ws r → ((s : Outline) × (r ≡ checks.Good s)) ↔ WellFormed version ws
+  pub check-good : {r : Checked} → checking.CheckedAs version ws r → ((g : ProblemRecord) × (r ≡ checks.Good g)) ↔ WellFormed version ws
   check-good {r} c = (λ e. sym (c .answered) ∙ ap checking.answer-of (e .1), λ w. good r (c .answered ∙ w))
     where
-      good : (r : Checked) → checking.answer-of r ≡ granted 0 → (s : Outline) × (r ≡ checks.Good s)
-      good (checks.Good s) e = (s, refl)
+      good : (r : Checked) → checking.answer-of r ≡ granted 0 → (g : ProblemRecord) × (r ≡ checks.Good g)
+      good (checks.Good g) e = (g, refl)
       good (checks.Refused f) e = absurd (refusal-not-yes f (number-of e))
 
-  -- The numbers are those of the CNF itself.
-  pub cnf-counted : {r : ProblemCounted} → encoding.CountedAs version ws r
-      → (r ≡ counts.Good (record { variables = variables (problem version ws); clauses = length (cnf (problem version ws)); words = length (cnf-words (problem version ws)) }))
+  -- The numbers of the record are those of the CNF itself.
+  pub cnf-counted : {r : Checked} → checking.CheckedAs version ws r
+      → ((g : ProblemRecord) × (r ≡ checks.Good g) × (g .counts ≡ record { variables = variables (problem version ws); clauses = length (cnf (problem version ws)); words = length (cnf-words (problem version ws)) }))
       ↔ WellFormed version ws
   cnf-counted {r} c = (
-    λ e. sym (c .answered) ∙ ap encoding.counted-answer e,
-    λ w. counted-unique version ws r _ c (record { answered = sym w; numbered = refl }),
+    λ e. check-good c .0 (e .0, e .1),
+    λ w. let found = check-good c .1 w in let good = rw (found .1) at c in (found .0, found .1, good .counted),
   )
 
 -- ════════ The CNF writer ════════
@@ -88,13 +88,13 @@ module _ (version : ℕ) (ws : List ℕ) (before : List ℤ) where
 
   module _ {r : Encoded} {after : List ℤ} (written-as : encoding.EncodedAs version ws before r after) where
     pub cnf-written : WellFormed version ws → length (cnf-words (problem version ws)) ≤ length before
-        → (r ≡ Written (length (cnf-words (problem version ws)))) × (after ≡ written (cnf-words (problem version ws)) before)
+        → (r ≡ Written (counts-of (problem version ws))) × (after ≡ written (cnf-words (problem version ws)) before)
     unfolding room-after-writing
     cnf-written w fits =
         encoded-unique version ws before r (Written _) after _ written-as
-        (record { answered = sym (granted-if-room w fits); room-after = refl })
+        (record { answered = sym (granted-if-room w fits); room-after = refl; numbered = refl })
 
-    pub written-only : {n : ℕ} → r ≡ Written n → WellFormed version ws × (length (cnf-words (problem version ws)) ≤ length before)
+    pub written-only : {n : Counts} → r ≡ Written n → WellFormed version ws × (length (cnf-words (problem version ws)) ≤ length before)
     written-only e = room-if-granted (sym (written-as .answered) ∙ ap encoding.answer-of e)
 
 -- ════════ The witness judge ════════

@@ -1,14 +1,14 @@
 -- The page to trust: the three demands as theorems of the calls of document 01, each stated in full and proved by the theorem that it names.
 -- That a call keeps the promise that a theorem asks for is its `ensures`, in crates/*/src; what is to be believed besides is the definitions that
 -- the statements name (docs/PROMISES.md lists both). Assumes nothing.
-use mathlib.Core.{Path._≡_, List.List, List.List·Memᴰ, Logic._↔_}
+use mathlib.Core.{Path._≡_, List.List, List._++_, List.List·Memᴰ, Logic._↔_, Logic._⊎_}
 use mathlib.Core.Bool.{Bool, true, false, _&&_, _||_}
 use Prim.Native.Nat.{ℕ, suc, _+_, _-_, _^_, _≤_, _<_}
 use lib.{IntN.ℤ, IntN.pos, ListN.length, ListN.getD}
-use Rattle.clauses.specs.{Lists.written, Limits.variables-limit, Answers.granted, Answers.first-failing}
+use Rattle.clauses.specs.{Lists.written, Lists.each, Limits.variables-limit, Answers.granted, Answers.first-failing}
 use Rattle.clauses.specs.Clauses.{Clause, Assignment, size, clause-true, Satisfies, Within}
 use Rattle.clauses.specs.CnfWords.{clauses-of, cnf-checks}
-use Rattle.clauses.specs.Refutations.{Step, steps-of, Lookup, SatisfiesNamed, step-accepted, judge-steps, numbers-area, clauses-area}
+use Rattle.clauses.specs.Refutations.{Step, steps-of, refutation-checks, Lookup, SatisfiesNamed, step-accepted, judge-steps, numbers-area, clauses-area}
 use Rattle.clauses.specs.Refutable.{Refutation, WordsFit, AcceptedWords}
 use Rattle.refutation.specs.declared.{RefutationAnswer.RefutationAnswer}
 use Rattle.refutation.specs.declared.RefutationAnswer.the-variants as cnf-judge
@@ -22,16 +22,16 @@ use Rattle.meaning.specs.Witnesses as witnesses
 use Rattle.meaning.specs.Witnesses.{witness-length, byte, shape, first-latches, inputs-at, Closes, lasso-path, Witness}
 use Rattle.meaning.specs.Cnf.{cnf, cnf-words, variables}
 use Rattle.meaning.specs.Calls.{WellFormed, judge-bytes, judge-witness, judge-refutation}
-use Rattle.meaning.specs.JobFile.{printed}
+use Rattle.meaning.specs.JobFile.{job-version, job-words, job-problem, job-answer, header-line, clause-line, printed}
 use Rattle.meaning.specs.Cases.{Case, thirteen-cases, AtAllLimits, limit-words}
 use Rattle.meaning.proofs.Check.{proper-if-well-formed}
 use Rattle.pairing.specs.{Bounds.at-bound, Bounds.Counted, Pairs.Model, Pairs.PairsOff, Pairs.WitnessAtOrBelow}
 use Rattle.pairing.specs.{WithoutLoop.StrictWitness, Refutable.AcceptedRefutation}
-use Rattle.problem.specs.declared.{Outline.Outline, Checked.Checked, Checked.the-variants.Good}
+use Rattle.counts.specs.{declared.Counts.Counts, Promise.counts-of}
+use Rattle.problem.specs.declared.{ProblemRecord.ProblemRecord, Checked.Checked, Checked.the-variants.Good}
 use Rattle.problem.specs.Promise.{CheckedAs}
-use Rattle.encoder.specs.declared.{Encoded.Encoded, Encoded.the-variants.Written, ProblemCounted.ProblemCounted}
-use Rattle.encoder.specs.declared.ProblemCounted.the-variants as counts
-use Rattle.encoder.specs.Promise.{EncodedAs, CountedAs}
+use Rattle.encoder.specs.declared.{Encoded.Encoded, Encoded.the-variants.Written, Encoded.the-variants.RoomTooSmall}
+use Rattle.encoder.specs.Promise.{EncodedAs}
 use Rattle.witness.specs.declared.WitnessAnswer.{WitnessAnswer}
 use Rattle.witness.specs.declared.WitnessAnswer.the-variants as witness-judge
 use Rattle.witness.specs.Promise.{answer-of}
@@ -54,10 +54,6 @@ pub encoded-unique : (version : ℕ) (ws : List ℕ) (before : List ℤ) (r r′
     → EncodedAs version ws before r after → EncodedAs version ws before r′ after′ → (r ≡ r′) × (after ≡ after′)
 encoded-unique = Rattle.encoder.proofs.Unique.encoded-unique
 
--- The numbers of the CNF.
-pub counted-unique : (version : ℕ) (ws : List ℕ) (r r′ : ProblemCounted) → CountedAs version ws r → CountedAs version ws r′ → r ≡ r′
-counted-unique = Rattle.encoder.proofs.Unique.counted-unique
-
 -- The witness judge, which changes no buffer.
 pub judgement-unique : (version : ℕ) (ws bs : List ℕ) (r r′ : WitnessAnswer)
     → answer-of r ≡ judge-witness version ws bs → answer-of r′ ≡ judge-witness version ws bs → r ≡ r′
@@ -79,8 +75,8 @@ refuted-unique = Rattle.checker.proofs.RefutedUnique.refuted-unique
 pub job-printed : (bs out : List ℕ) {r r′ : Printed} {p p′ : List ℕ} → Prints (printed bs) out r p → Prints (printed bs) out r′ p′ → (r ≡ r′) × (p ≡ p′)
 job-printed bs = Rattle.job_file.proofs.Unique.printed-unique (printed bs)
 
--- Words are well formed where `check-problem` says yes; of the call, where it answers an outline, which by its promise is theirs.
-pub check-good : (version : ℕ) (ws : List ℕ) {r : Checked} → CheckedAs version ws r → ((s : Outline) × (r ≡ Good s)) ↔ WellFormed version ws
+-- Words are well formed where `check-problem` says yes; of the call, where it answers a record, whose outline by its promise is theirs, and whose numbers are those of their CNF.
+pub check-good : (version : ℕ) (ws : List ℕ) {r : Checked} → CheckedAs version ws r → ((g : ProblemRecord) × (r ≡ Good g)) ↔ WellFormed version ws
 check-good = Rattle.checker.proofs.CallsMean.check-good
 
 -- ════════ Demand 2 ════════
@@ -88,19 +84,46 @@ check-good = Rattle.checker.proofs.CallsMean.check-good
 -- "The CNF is word for word the one laid down": of well-formed words, where there is room; what stood past it stays.
 pub cnf-written : (version : ℕ) (ws : List ℕ) (before : List ℤ) {r : Encoded} {after : List ℤ} → EncodedAs version ws before r after
     → WellFormed version ws → length (cnf-words (problem version ws)) ≤ length before
-    → (r ≡ Written (length (cnf-words (problem version ws)))) × (after ≡ written (cnf-words (problem version ws)) before)
+    → (r ≡ Written (counts-of (problem version ws))) × (after ≡ written (cnf-words (problem version ws)) before)
 cnf-written = Rattle.checker.proofs.CallsMean.cnf-written
 
 -- It is written of no other words, and into no smaller room.
 pub written-only : (version : ℕ) (ws : List ℕ) (before : List ℤ) {r : Encoded} {after : List ℤ} → EncodedAs version ws before r after
-    → {n : ℕ} → r ≡ Written n → WellFormed version ws × (length (cnf-words (problem version ws)) ≤ length before)
+    → {n : Counts} → r ≡ Written n → WellFormed version ws × (length (cnf-words (problem version ws)) ≤ length before)
 written-only = Rattle.checker.proofs.CallsMean.written-only
 
--- Its numbers of variables, clauses and words.
-pub cnf-counted : (version : ℕ) (ws : List ℕ) {r : ProblemCounted} → CountedAs version ws r
-    → (r ≡ counts.Good (record { variables = variables (problem version ws); clauses = length (cnf (problem version ws)); words = length (cnf-words (problem version ws)) }))
+-- Its numbers of variables, clauses and words, which the record of the check has.
+pub cnf-counted : (version : ℕ) (ws : List ℕ) {r : Checked} → CheckedAs version ws r
+    → ((g : ProblemRecord) × (r ≡ Good g) × (g .counts ≡ record { variables = variables (problem version ws); clauses = length (cnf (problem version ws)); words = length (cnf-words (problem version ws)) }))
     ↔ WellFormed version ws
 cnf-counted = Rattle.checker.proofs.CallsMean.cnf-counted
+
+-- "The text header, refusal 6 and refusal 12 rest on them": by the numbers of the record, when the CNF writer answers 6, with what place, and when yes.
+module _ {version : ℕ} {ws : List ℕ} {g : ProblemRecord} (good : CheckedAs version ws (Good g)) where
+  pub room-by-record : {before after : List ℤ} {r : Encoded} → EncodedAs version ws before r after
+      → (n : ℕ) → (r ≡ RoomTooSmall n) ↔ ((length before < g .counts .words) × (n ≡ g .counts .words))
+  room-by-record = Rattle.checker.proofs.ByRecord.room-by-record good
+
+  pub written-by-record : {before after : List ℤ} {r : Encoded} → EncodedAs version ws before r after → (r ≡ Written (g .counts)) ↔ (g .counts .words ≤ length before)
+  written-by-record = Rattle.checker.proofs.ByRecord.written-by-record good
+
+  -- The judge of a problem's refutation: 6, then 12 where 6 and 11 pass, of the area by numbers before the area by clauses.
+  module _ {refutation room : List ℤ} {numbers clauses : List ℕ} {r : Refuted} {room′ : List ℤ} {numbers′ clauses′ : List ℕ}
+      (judged : JudgedAs version ws refutation room numbers clauses r room′ numbers′ clauses′) (n : ℕ) where
+    pub judge-room-by-record : (r ≡ problem-judge.RoomTooSmall n) ↔ ((length room < g .counts .words) × (n ≡ g .counts .words))
+    judge-room-by-record = Rattle.checker.proofs.ByRecord.judge-room-by-record good judged n
+
+    pub area-by-record : (r ≡ problem-judge.AreaTooSmall n)
+        ↔ ((g .counts .words ≤ length room) × (first-failing (refutation-checks (g .counts .variables) (g .counts .clauses) refutation) (granted 0) ≡ granted 0)
+        × (((length numbers < g .counts .variables + 1) × (n ≡ g .counts .variables + 1))
+        ⊎ ((g .counts .variables + 1 ≤ length numbers)
+        × (length clauses < g .counts .clauses + length (steps-of refutation)) × (n ≡ g .counts .clauses + length (steps-of refutation)))))
+    area-by-record = Rattle.checker.proofs.ByRecord.area-by-record good judged n
+
+-- What the program prints at yes: a header with the record's variables and clauses, then the clauses, one a line.
+pub header-by-record : (bs : List ℕ) {g : ProblemRecord} → CheckedAs (job-version bs) (job-words bs) (Good g) → job-answer bs .number ≡ 0
+    → printed bs ≡ header-line (g .counts .variables) (g .counts .clauses) ++ each (cnf (job-problem bs)) clause-line
+header-by-record = Rattle.checker.proofs.ByRecord.header-by-record
 
 -- What a solver reads in these words are the clauses that the theorems below speak of.
 pub cnf-read-back : (version : ℕ) (ws : List ℕ) → WellFormed version ws → clauses-of (cnf-words (problem version ws)) ≡ cnf (problem version ws)

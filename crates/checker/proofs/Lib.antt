@@ -4,5 +4,6 @@ pub mod RefutedUnique
 pub mod LazyProblem
 pub mod CallsMean
 pub mod Refutable
+pub mod ByRecord
 pub mod OtherCalls
 pub mod Demands

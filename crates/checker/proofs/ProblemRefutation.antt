@@ -1,23 +1,23 @@
 -- A problem's CNF passes 16, so its refutations are judged as document 01 says; and each outcome of the judge meets its promise.
 -- Assumes nothing.
 use mathlib.Core.Path.{_≡_, refl, sym, _∙_, ap}
-use mathlib.Core.Bool.{Bool, true, false, not, cond, true≢false}
+use mathlib.Core.Bool.{Bool, true, false, true≢false}
 use mathlib.Core.List.{List, [], _∷_}
 use Prim.Native.Nat.{ℕ, _≤_}
 use native.Mathlib.Omega.{arith}
 use borrow.Author.Tests.{le-leb, leb-true}
 use lib.IntN.{ℤ}
-use lib.Dec.{leb, eqb}
+use lib.Dec.{leb}
 use lib.ListN.{length, take, drop, length-append}
 use lib.Seq.{take-append-seam}
 use Rattle.clauses.specs.Limits.{variables-limit}
 use Rattle.clauses.specs.Lists.{all-of, numbered, joined}
-use Rattle.clauses.specs.Answers.{Answer, Check, check, first-failing, granted, bad-cnf}
+use Rattle.clauses.specs.Answers.{Answer, Check, check, granted, bad-cnf}
 use Rattle.clauses.specs.Clauses.{Clause, Within, variable-of, literal-within}
 use Rattle.clauses.specs.CnfWords.{ended-by-0, words-of, cnf-checks}
 use Rattle.clauses.specs.Refutations.{steps-of, refutation-checks, area-checks, judge-steps, judge-clauses, judge-cnf, judged, area-after}
 use Rattle.clauses.proofs.Satisfaction.{both-true, first-true, second-true, all-of-append, all-of-numbered}
-use Rattle.clauses.proofs.Answers.{passing, first-failing-passed, first-failing-joined, numbered-passing, number-of, steps-judged, cnf-judged, clauses-judged}
+use Rattle.clauses.proofs.Answers.{passing, other-than, number-after, first-failing-passed, first-failing-joined, numbered-passing, number-of, steps-judged, cnf-judged, clauses-judged}
 use Rattle.clauses.proofs.ReadBack.{words-ended}
 use Rattle.refutation.specs.declared.RefutationAnswer.{RefutationAnswer}
 use Rattle.refutation.specs.declared.RefutationAnswer.the-variants as cnf-answers
@@ -36,7 +36,7 @@ use Rattle.problem.specs.declared.Refusal.{Refusal}
 use Rattle.problem.specs.declared.Refusal.the-variants.{BadVersion, BadLength, OutsideLimits, BadReset, BadLiteral, BadNode}
 use Rattle.problem.specs.Promise.{refusal-answer}
 use Rattle.problem.proofs.Formed.{passes-if-handed-on}
-use Rattle.encoder.specs.declared.Counts.{Counts}
+use Rattle.counts.specs.declared.Counts.{Counts}
 use Rattle.encoder.specs.declared.Prepared.{Prepared}
 use Rattle.encoder.specs.declared.Prepared.the-variants as prepared
 use Rattle.encoder.specs.Preparing.{prepared-then, PreparedAs}
@@ -79,26 +79,13 @@ module _ (p : Problem) (proper : Proper p) where
 
 -- ════════ 16 never answers for a problem's CNF ════════
 
--- The check's refusal is not 16.
-abbrev not-16 : Check → Bool
-not-16 c = not (eqb (c .otherwise .number) 16)
-
-from-after : (cs : List Check) (after : Answer) → all-of not-16 cs ≡ true → (first-failing cs after) .number ≡ 16 → after .number ≡ 16
-from-after [] after o e = e
-from-after (c ∷ cs) after o e = go (c .passes) (from-after cs after (second-true (not-16 c) (all-of not-16 cs) o)) e
-  where
-    go : (b : Bool) → ((first-failing cs after) .number ≡ 16 → after .number ≡ 16)
-        → (cond b (first-failing cs after) (c .otherwise)) .number ≡ 16 → after .number ≡ 16
-    go true later e′ = later e′
-    go false later e′ = absurd (true≢false (sym (first-true (not-16 c) (all-of not-16 cs) o) ∙ rw e′))
-
 pub clauses-not-16 : (v : ℕ) (cs : List Clause) (ws : List ℤ) (m n : ℕ) → judge-clauses v cs ws m n .number ≡ 16 → ⊥
 unfolding refutation-checks area-checks
 clauses-not-16 v cs ws m n e =
-    let words : all-of not-16 (refutation-checks v (length cs) ws) ≡ true =
-    rw all-of-append (both-true (all-of-numbered not-16 0 ws _ (λ i w. refl)) refl) in
-    let later = from-after (refutation-checks v (length cs) ws) _ words (rw (clauses-judged v cs ws m n) at e) in
-    let last = from-after (area-checks v cs (steps-of ws) m n) (judge-steps cs (steps-of ws)) refl later in
+    let words : all-of (other-than 16) (refutation-checks v (length cs) ws) ≡ true =
+    rw all-of-append (both-true (all-of-numbered (other-than 16) 0 ws _ (λ i w. refl)) refl) in
+    let later = number-after 16 (refutation-checks v (length cs) ws) _ words (rw (clauses-judged v cs ws m n) at e) in
+    let last = number-after 16 (area-checks v cs (steps-of ws) m n) (judge-steps cs (steps-of ws)) refl later in
     true≢false (sym (steps-judged cs (steps-of ws)) ∙ rw last)
 
 -- ════════ The CNF in the room ════════

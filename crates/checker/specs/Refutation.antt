@@ -16,9 +16,9 @@ use Rattle.meaning.specs.Witnesses.{Witness}
 use Rattle.meaning.specs.Cnf.{cnf, cnf-words, variables}
 use Rattle.meaning.specs.Calls.{judge-refutation, room-after-judging, numbers-area-after, clauses-area-after}
 use Rattle.pairing.specs.Bounds.{at-bound}
+use Rattle.counts.specs.declared.Counts.{Counts}
+use Rattle.counts.specs.Promise.{counts-of}
 use Rattle.problem.specs.Promise.{refusal-answer}
-use Rattle.encoder.specs.declared.Counts.{Counts}
-use Rattle.encoder.specs.Promise.{counts-of}
 use Rattle.checker.specs.declared.Refuted.{Refuted}
 use Rattle.checker.specs.declared.Refuted.the-variants.{Yes, Problem, RoomTooSmall, BadRefutation, AreaTooSmall, StepRefused, NotClosed}
 

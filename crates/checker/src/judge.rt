@@ -1,6 +1,6 @@
 // Judges a refutation of a problem's CNF, which is written into a lent room.
 use crate::Refuted;
-use encoder::Counts;
+use counts::Counts;
 use encoder::Prepared;
 use encoder::prepare::prepare;
 use refutation::RefutationAnswer;

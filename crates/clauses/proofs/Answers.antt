@@ -1,8 +1,9 @@
 -- Laws of the order of checks: what an answer of yes says of them. Assumes nothing.
 use mathlib.Core.Path.{_≡_, refl, sym, _∙_, ap}
-use mathlib.Core.Bool.{Bool, true, false, not, cond, true≢false}
+use mathlib.Core.Bool.{Bool, true, false, not, cond}
 use mathlib.Core.List.{List, [], _∷_, _++_}
 use Prim.Native.Nat.{ℕ, suc}
+use borrow.Author.Tests.{eqb-false, not-true}
 use lib.IntN.{ℤ}
 use lib.Dec.{eqb}
 use lib.ListN.{length}
@@ -27,9 +28,12 @@ place-of e = ap (λ (x : Answer). x .place) e
 abbrev pub passing : Check → Bool
 passing c = c .passes
 
--- Where the check fails, the answer is not yes.
+-- Where the check fails, the answer has another number than k; refusing, it is not yes.
+abbrev pub other-than : ℕ → Check → Bool
+other-than k c = not (eqb (c .otherwise .number) k)
+
 abbrev pub refusing : Check → Bool
-refusing c = not (eqb (c .otherwise .number) 0)
+refusing = other-than 0
 
 pub first-failing-append : (xs ys : List Check) (after : Answer) → first-failing (xs ++ ys) after ≡ first-failing xs (first-failing ys after)
 first-failing-append [] ys after = refl
@@ -40,17 +44,26 @@ first-failing-passed [] after e = refl
 first-failing-passed (c ∷ cs) after e =
     rw (first-true (c .passes) (all-of passing cs) e) (first-failing-passed cs after (second-true (c .passes) (all-of passing cs) e))
 
+-- An answer with a number that no check gives comes from checks that all pass.
+pub passed-by-number : (k : ℕ) (cs : List Check) (after : Answer) → all-of (other-than k) cs ≡ true
+    → first-failing cs after .number ≡ k → all-of passing cs ≡ true
+passed-by-number k [] after o e = refl
+passed-by-number k (c ∷ cs) after o e =
+    go (c .passes) refl (passed-by-number k cs after (second-true (other-than k c) (all-of (other-than k) cs) o)) e
+  where
+    go : (b : Bool) → c .passes ≡ b → (first-failing cs after .number ≡ k → all-of passing cs ≡ true)
+        → (cond b (first-failing cs after) (c .otherwise)) .number ≡ k → all-of passing (c ∷ cs) ≡ true
+    go true p later e′ = both-true p (later e′)
+    go false p later e′ = absurd (eqb-false _ k (not-true _ (first-true (other-than k c) (all-of (other-than k) cs) o)) e′)
+
+-- And what comes after them has the number.
+pub number-after : (k : ℕ) (cs : List Check) (after : Answer) → all-of (other-than k) cs ≡ true → first-failing cs after .number ≡ k → after .number ≡ k
+number-after k cs after o e = sym (number-of (first-failing-passed cs after (passed-by-number k cs after o e))) ∙ e
+
 -- An answer of yes comes from checks that all pass.
 pub all-pass-if-yes : (cs : List Check) (after : Answer) → all-of refusing cs ≡ true
     → (first-failing cs after) .number ≡ 0 → all-of passing cs ≡ true
-all-pass-if-yes [] after r e = refl
-all-pass-if-yes (c ∷ cs) after r e =
-    go (c .passes) refl (all-pass-if-yes cs after (second-true (refusing c) (all-of refusing cs) r)) e
-  where
-    go : (b : Bool) → c .passes ≡ b → ((first-failing cs after) .number ≡ 0 → all-of passing cs ≡ true)
-        → (cond b (first-failing cs after) (c .otherwise)) .number ≡ 0 → all-of passing (c ∷ cs) ≡ true
-    go true p rest e′ = both-true p (rest e′)
-    go false p rest e′ = absurd (true≢false (sym (first-true (refusing c) (all-of refusing cs) r) ∙ rw e′))
+all-pass-if-yes = passed-by-number 0
 
 pub all-pass-if-granted : (cs : List Check) (after : Answer) {p : ℕ} → all-of refusing cs ≡ true
     → first-failing cs after ≡ granted p → all-of passing cs ≡ true

@@ -13,13 +13,15 @@ use Rattle.clauses.specs.Clauses.{negated}
 use Rattle.clauses.specs.Answers.{Answer}
 use Rattle.meaning.specs.Limits.{inputs-limit, latches-limit, gates-limit, nodes-limit, bound-limit}
 use Rattle.meaning.specs.Problem.{header-words, problem-by, problem}
-use Rattle.meaning.specs.Cnf.{true-literal, false-literal, cnf, cnf-words}
+use Rattle.meaning.specs.Cnf.{true-literal, false-literal, variables, cnf, cnf-words}
 use Rattle.meaning.specs.Calls.{write-cnf, room-after-writing}
 use Rattle.meaning.specs.Cases.{T-words}
+use Rattle.counts.specs.declared.Counts.{Counts}
+use Rattle.problem.proofs.LazyCounts.{numbers-of}
 use Rattle.problem.specs.declared.Refusal.the-variants.{BadVersion, BadLiteral}
 use Rattle.encoder.specs.declared.Encoded.{Encoded}
 use Rattle.encoder.specs.declared.Encoded.the-variants.{Written, Problem, RoomTooSmall}
-use Rattle.encoder.specs.Promise.{answer-of, EncodedAs}
+use Rattle.encoder.specs.Promise.{answer-of, NumberedBy, EncodedAs}
 use Rattle.encoder.proofs.Unique.{encoded-unique}
 
 -- ════════ What it is to break the promise ════════
@@ -115,45 +117,56 @@ unfoldable laid-down : Input → Answer
 unfolding header-words problem-by problem cnf cnf-words inputs-limit latches-limit gates-limit nodes-limit bound-limit write-cnf
 laid-down x = write-cnf (x .version) (x .words) (length (x .room))
 
-meets : (x : Input) (r : Encoded) → answer-of r ≡ laid-down x → Meets x r (room-after-writing (answer-of r) (x .version) (x .words) (x .room))
+meets : (x : Input) (r : Encoded) → answer-of r ≡ laid-down x → NumberedBy (problem (x .version) (x .words)) r
+    → Meets x r (room-after-writing (answer-of r) (x .version) (x .words) (x .room))
 unfolding laid-down
-meets x r e = record { answered = e; room-after = refl }
+meets x r e n = record { answered = e; room-after = refl; numbered = n }
+
+-- The numbers of T, of T at bound 1 and of G.
+abbrev pub T-numbers : Counts
+T-numbers = numbers-of 6 12 37
+
+abbrev pub T-longer-numbers : Counts
+T-longer-numbers = numbers-of 10 23 75
+
+abbrev pub G-numbers : Counts
+G-numbers = numbers-of 9 20 68
 
 -- T's CNF has 37 words: a room of 37 words or more, and one of fewer.
-pub written-meets : (n : ℕ) → 37 ≤ n → Meets (over T-words n) (Written 37) (written T-cnf (replicate n (pos 9)))
-unfolding laid-down header-words problem-by problem cnf cnf-words room-after-writing
-written-meets n h = meets (over T-words n) (Written 37) (rw (length-replicate n (pos 9), le-leb 37 n h))
+pub written-meets : (n : ℕ) → 37 ≤ n → Meets (over T-words n) (Written T-numbers) (written T-cnf (replicate n (pos 9)))
+unfolding laid-down header-words problem-by problem variables cnf cnf-words room-after-writing
+written-meets n h = meets (over T-words n) (Written T-numbers) (rw (length-replicate n (pos 9), le-leb 37 n h)) refl
 
 pub small-room-meets : (n : ℕ) → n < 37 → Meets (over T-words n) (RoomTooSmall 37) (replicate n (pos 9))
 unfolding laid-down room-after-writing
-small-room-meets n h = meets (over T-words n) (RoomTooSmall 37) (rw (length-replicate n (pos 9), lt-leb 37 n h))
+small-room-meets n h = meets (over T-words n) (RoomTooSmall 37) (rw (length-replicate n (pos 9), lt-leb 37 n h)) tt
 
 pub bad-problem-meets : (n : ℕ) → Meets (T-bad n) (Problem (BadLiteral 5)) (replicate n (pos 9))
 unfolding laid-down room-after-writing
-bad-problem-meets n = meets (T-bad n) (Problem (BadLiteral 5)) refl
+bad-problem-meets n = meets (T-bad n) (Problem (BadLiteral 5)) refl tt
 
 pub other-version-meets : Meets T-unknown (Problem BadVersion) (replicate 37 (pos 9))
 unfolding laid-down room-after-writing
-other-version-meets = meets T-unknown (Problem BadVersion) refl
+other-version-meets = meets T-unknown (Problem BadVersion) refl tt
 
-pub G-meets : Meets G (Written 68) (G-ended-with true-literal)
-unfolding laid-down header-words problem-by problem cnf cnf-words room-after-writing
-G-meets = meets G (Written 68) refl
+pub G-meets : Meets G (Written G-numbers) (G-ended-with true-literal)
+unfolding laid-down header-words problem-by problem variables cnf cnf-words room-after-writing
+G-meets = meets G (Written G-numbers) refl refl
 
 -- ════════ Answers ════════
 
 module _ (r : Encoded) (after : List ℤ) where
   -- Any other answer to T, in a room that has 37 words.
-  pub refuses-all-breaks : (n : ℕ) → 37 ≤ n → ¬ (r ≡ Written 37) → Breaks (over T-words n) r after
+  pub refuses-all-breaks : (n : ℕ) → 37 ≤ n → ¬ (r ≡ Written T-numbers) → Breaks (over T-words n) r after
   refuses-all-breaks n h = other-answer-breaks (written-meets n h)
 
   pub takes-any-version-breaks : ¬ (r ≡ Problem BadVersion) → Breaks T-unknown r after
   takes-any-version-breaks = other-answer-breaks other-version-meets
 
 module _ (after : List ℤ) where
-  -- Other words written, other words needed, and another bad word.
-  pub made-up-word-count-breaks : (n : ℕ) → ¬ (n ≡ 37) → Breaks (over T-words 37) (Written n) after
-  made-up-word-count-breaks n h = other-answer-breaks (written-meets 37 (omega arith)) (λ e. h (cc))
+  -- Other numbers, other words needed, and another bad word.
+  pub made-up-numbers-break : (n : Counts) → ¬ (n ≡ T-numbers) → Breaks (over T-words 37) (Written n) after
+  made-up-numbers-break n h = other-answer-breaks (written-meets 37 (omega arith)) (λ e. h (cc))
 
   pub made-up-need-breaks : (n : ℕ) → ¬ (n ≡ 37) → Breaks (over T-words 36) (RoomTooSmall n) after
   made-up-need-breaks n h = other-answer-breaks (small-room-meets 36 (omega arith)) (λ e. h (cc))
@@ -166,7 +179,7 @@ module _ (after : List ℤ) where
   room-before-problem-breaks n = other-answer-breaks (bad-problem-meets 0) (λ e. let z : _≡_ {A = ℕ} 0 1 = cc in omega arith)
 
   -- A room of 36 words is too small, and one of 37 is not.
-  pub room-one-short-accepted-breaks : (n : ℕ) → Breaks (over T-words 36) (Written n) after
+  pub room-one-short-accepted-breaks : (n : Counts) → Breaks (over T-words 36) (Written n) after
   room-one-short-accepted-breaks n =
       other-answer-breaks (small-room-meets 36 (omega arith)) (λ e. let z : _≡_ {A = ℕ} 0 1 = cc in omega arith)
 
@@ -174,16 +187,17 @@ module _ (after : List ℤ) where
   room-as-needed-refused-breaks n =
       other-answer-breaks (written-meets 37 (omega arith)) (λ e. let z : _≡_ {A = ℕ} 0 1 = cc in omega arith)
 
-  -- Bound 1 counted as one position: the words of bound 0.
-  pub k-as-positions-counted-breaks : Breaks (T-longer 75) (Written 37) after
-  unfolding laid-down
-  k-as-positions-counted-breaks =
-      other-answer-breaks (meets (T-longer 75) (Written 75) refl) (λ e. let z : _≡_ {A = ℕ} 37 75 = cc in omega arith)
+  -- Bound 1 counted as one position: the numbers of bound 0.
+  pub k-as-positions-counted-breaks : (n : Counts) → n .words ≡ 37 → Breaks (T-longer 75) (Written n) after
+  unfolding laid-down header-words problem-by problem variables cnf cnf-words
+  k-as-positions-counted-breaks n is =
+      other-answer-breaks (meets (T-longer 75) (Written T-longer-numbers) refl refl)
+      (λ e. let z : n ≡ T-longer-numbers = cc in let words : n .words ≡ 75 = ap (λ (c : Counts). c .words) z in omega arith)
 
   pub k-as-positions-needed-breaks : Breaks (T-longer 36) (RoomTooSmall 37) after
   unfolding laid-down
   k-as-positions-needed-breaks =
-      other-answer-breaks (meets (T-longer 36) (RoomTooSmall 75) refl) (λ e. let z : _≡_ {A = ℕ} 37 75 = cc in omega arith)
+      other-answer-breaks (meets (T-longer 36) (RoomTooSmall 75) refl tt) (λ e. let z : _≡_ {A = ℕ} 37 75 = cc in omega arith)
 
 -- ════════ The room ════════
 
@@ -196,15 +210,15 @@ writes-nothing-breaks n h r =
 module _ (r : Encoded) where
   -- Word 13 is the atom's literal, 2 in T and -2 here.
   pub always-writes-T-breaks : Breaks T-negated r T-cnf
-  unfolding laid-down header-words problem-by problem cnf cnf-words room-after-writing
+  unfolding laid-down header-words problem-by problem variables cnf cnf-words room-after-writing
   always-writes-T-breaks =
-      other-word-breaks (meets T-negated (Written 37) refl) 13 (λ e. let z : _≡_ {A = ℕ} 0 1 = cc in omega arith)
+      other-word-breaks (meets T-negated (Written T-numbers) refl refl) 13 (λ e. let z : _≡_ {A = ℕ} 0 1 = cc in omega arith)
 
   -- The CNF of bound 0 at bound 1: word 6 is -2 there, and here the 0 of a step's clause.
   pub k-as-positions-breaks : Breaks (T-longer 75) r (written T-cnf (replicate 75 (pos 9)))
-  unfolding laid-down header-words problem-by problem cnf cnf-words room-after-writing
+  unfolding laid-down header-words problem-by problem variables cnf cnf-words room-after-writing
   k-as-positions-breaks =
-      other-word-breaks (meets (T-longer 75) (Written 75) refl) 6 (λ e. let z : _≡_ {A = ℕ} 0 1 = cc in omega arith)
+      other-word-breaks (meets (T-longer 75) (Written T-longer-numbers) refl refl) 6 (λ e. let z : _≡_ {A = ℕ} 0 1 = cc in omega arith)
 
   -- Word 45 is Q(1,1) in the second clause of Q(1,0).
   pub g-ended-with-false-breaks : Breaks G r (G-ended-with false-literal)

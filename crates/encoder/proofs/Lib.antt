@@ -7,12 +7,9 @@ pub mod VariableNumbers
 pub mod WithinLimits
 pub mod CircuitLiterals
 pub mod OpForms
-pub mod CountingOneMore
-pub mod CountsFit
-pub mod ClosedForms
 pub mod RoomAnswers
 pub mod Preparing
 pub mod PreparedUnique
 pub mod Unique
 pub mod Lazy
-pub mod LazyCounts
+pub mod LazyLimits

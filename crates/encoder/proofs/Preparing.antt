@@ -24,15 +24,15 @@ use Rattle.meaning.specs.Calls.{preparing-parts}
 use Rattle.meaning.proofs.Check.{checked-then, checked-if-well-formed}
 use Rattle.meaning.proofs.Ranges.{variables-fit}
 use Rattle.meaning.proofs.ReadBack.{cnf-read-back}
-use Rattle.problem.specs.declared.Outline.{Outline}
+use Rattle.counts.specs.declared.Counts.{Counts}
+use Rattle.counts.specs.Promise.{counts-of}
+use Rattle.problem.specs.declared.ProblemRecord.{ProblemRecord}
 use Rattle.problem.specs.declared.Refusal.{Refusal}
 use Rattle.problem.specs.declared.Checked.the-variants.{Good, Refused}
 use Rattle.problem.specs.Promise.{problem-in, CheckedAs}
 use Rattle.problem.proofs.Formed.{well-formed-if-good, refused-whatever}
-use Rattle.encoder.specs.declared.Counts.{Counts}
 use Rattle.encoder.specs.declared.Prepared.{Prepared}
 use Rattle.encoder.specs.declared.Prepared.the-variants.{Written, Problem, RoomTooSmall, BadRefutation, AreaTooSmall}
-use Rattle.encoder.specs.Promise.{counts-of}
 use Rattle.encoder.specs.Writing.{Wrote}
 use Rattle.encoder.specs.Preparing.{PreparedFor, PreparedAs}
 
@@ -117,8 +117,7 @@ module _ {p : problems.Problem} (proper : Proper p) {n : Counts} (counted : n �
                 numbered = tt;
               }
 
-          pub cnf-prepared : n .clauses + s ≤ places → {after : List ℤ} {r : ℕ} → Wrote 0 (words-of (cnf p)) room after r
-              → Outcome (Written (record { variables = n .variables; clauses = n .clauses; words = r })) after
+          pub cnf-prepared : n .clauses + s ≤ places → {after : List ℤ} {r : ℕ} → Wrote 0 (words-of (cnf p)) room after r → Outcome (Written n) after
           unfolding area-checks cnf-words
           cnf-prepared h w =
               let long = le-leb (suc (n .variables)) numbers (omega arith) in
@@ -126,14 +125,14 @@ module _ {p : problems.Problem} (proper : Proper p) {n : Counts} (counted : n �
               record {
                 answered = λ steps. sym (sym (past-words steps) ∙ rw (long, wide));
                 room-after = w .holds ∙ rw zero-add;
-                numbered = rw (w .ends ∙ zero-add _ ∙ sym words-counted) counted;
+                numbered = counted;
               }
 
 -- ════════ The check ════════
 
 module _ {version : ℕ} {ws : List ℕ} {refutation : List ℤ} {numbers places : ℕ} where
-  pub prepared-if-good : {s : Outline} → CheckedAs version ws (Good s) → {before after : List ℤ} {r : Prepared}
-      → PreparedFor (problem-in s ws) refutation numbers places before r after → PreparedAs version ws refutation numbers places before r after
+  pub prepared-if-good : {g : ProblemRecord} → CheckedAs version ws (Good g) → {before after : List ℤ} {r : Prepared}
+      → PreparedFor (problem-in (g .outline) ws) refutation numbers places before r after → PreparedAs version ws refutation numbers places before r after
   prepared-if-good good {before} {after} {r} a =
       let same = good .outlined .problem-is in
       let b = rw same at a in

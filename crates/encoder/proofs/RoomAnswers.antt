@@ -14,7 +14,9 @@ use Rattle.meaning.specs.Cnf.{cnf, cnf-words}
 use Rattle.meaning.specs.Calls.{room-after-writing}
 use Rattle.meaning.proofs.Check.{checked-if-well-formed}
 use Rattle.meaning.proofs.Calls.{write-cnf-is}
-use Rattle.problem.specs.declared.Outline.{Outline}
+use Rattle.counts.specs.declared.Counts.{Counts}
+use Rattle.counts.specs.Promise.{counts-of}
+use Rattle.problem.specs.declared.ProblemRecord.{ProblemRecord}
 use Rattle.problem.specs.declared.Refusal.{Refusal}
 use Rattle.problem.specs.declared.Checked.the-variants.{Good, Refused}
 use Rattle.problem.specs.Promise.{CheckedAs, refusal-answer, problem-in}
@@ -28,14 +30,15 @@ use Rattle.encoder.specs.Writing.{Room, Wrote, RoomAnswered}
 -- ════════ The check ════════
 
 module _ {version : ℕ} {ws : List ℕ} where
-  pub encoded-if-good : {s : Outline} → CheckedAs version ws (Good s) → {before after : List ℤ} {r : Encoded}
-      → RoomAnswered (problem-in s ws) before r after → EncodedAs version ws before r after
+  pub encoded-if-good : {g : ProblemRecord} → CheckedAs version ws (Good g) → {before after : List ℤ} {r : Encoded}
+      → RoomAnswered (problem-in (g .outline) ws) before r after → EncodedAs version ws before r after
   unfolding room-after-writing
   encoded-if-good good {before} a =
       let answer = rw (good .outlined .problem-is) at a in
       record {
         answered = answer .answered ∙ sym (write-cnf-is version ws (length before) ∙ checked-if-well-formed version ws _ (well-formed-if-good good));
         room-after = answer .room-after;
+        numbered = answer .numbered;
       }
 
   pub encoded-if-refused : {f : Refusal} → CheckedAs version ws (Refused f) → (before : List ℤ) → EncodedAs version ws before (Problem f) before
@@ -43,6 +46,7 @@ module _ {version : ℕ} {ws : List ℕ} where
   encoded-if-refused {f} refused before = record {
     answered = refused-whatever version ws f _ (refused .answered) ∙ sym (write-cnf-is version ws (length before));
     room-after = rw (ne-eqb (refusal-answer f .number) 0 (refusal-not-yes f));
+    numbered = tt;
   }
 
 -- ════════ The room ════════
@@ -56,11 +60,14 @@ module _ (p : problems.Problem) {before : List ℤ} where
   too-small e h = record {
     answered = rw (lt-leb (length (cnf-words p)) (length before) (rw e at h)) (ap room-too-small e);
     room-after = refl;
+    numbered = tt;
   }
 
-  pub all-written : {after : List ℤ} {r : ℕ} → Wrote 0 (words-of (cnf p)) before after r → RoomAnswered p before (Written r) after
+  -- The numbers of the record are those of what was written.
+  pub all-written : {n : Counts} → n ≡ counts-of p → {after : List ℤ} {r : ℕ} → Wrote 0 (words-of (cnf p)) before after r → RoomAnswered p before (Written n) after
   unfolding cnf-words
-  all-written w = record {
-    answered = rw (le-leb (length (words-of (cnf p))) (length before) (rw zero-add at (w .fits))) (ap granted (w .ends ∙ zero-add _));
+  all-written counted w = record {
+    answered = rw (le-leb (length (words-of (cnf p))) (length before) (rw zero-add at (w .fits))) (ap (λ (c : Counts). granted (c .words)) counted);
     room-after = w .holds ∙ rw zero-add;
+    numbered = counted;
   }

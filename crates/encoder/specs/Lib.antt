@@ -1,7 +1,6 @@
--- What the writer of the CNF promises, and what each of its functions writes, numbers or counts.
+-- What the writer of the CNF promises, and what each of its functions writes or numbers.
 pub mod Promise
 pub mod Numbering
 pub mod Writing
 pub mod ItemParts
-pub mod Counting
 pub mod Preparing

@@ -10,10 +10,10 @@ use Rattle.meaning.specs.Answers.{room-too-small}
 use Rattle.meaning.specs.Problem as problems
 use Rattle.meaning.specs.Cnf.{cnf-words}
 use Rattle.meaning.specs.Calls.{check-parts, preparing-parts}
+use Rattle.counts.specs.Promise.{counts-of}
 use Rattle.problem.specs.Promise.{refusal-answer}
 use Rattle.encoder.specs.declared.Prepared.{Prepared}
 use Rattle.encoder.specs.declared.Prepared.the-variants.{Written, Problem, RoomTooSmall, BadRefutation, AreaTooSmall}
-use Rattle.encoder.specs.Promise.{counts-of}
 
 -- A refusal is the answer; where the CNF is written, that to the steps is.
 abbrev pub prepared-then : Prepared → Answer → Answer

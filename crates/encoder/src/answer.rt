@@ -19,7 +19,7 @@ pub fn place(a: Encoded) -> usize
     ensures { λ r. ⌜ r ≡ answer-of a .place ⌝ }
 {
     match a {
-        Encoded::Written(n) => n,
+        Encoded::Written(n) => n.words,
         Encoded::Problem(f) => refusal_place(f),
         Encoded::RoomTooSmall(n) => n,
     }

@@ -1,7 +1,6 @@
 // Writes the CNF of a problem.
 pub mod answer;
 mod circuit;
-mod count;
 pub mod encode;
 mod forms;
 mod literals;
@@ -10,26 +9,14 @@ pub mod prepare;
 mod selectors;
 mod write;
 
+use counts::Counts;
 use problem::Refusal;
 
-// The outcome of writing: the words written, the problem's refusal, or the words needed; `answer` gives the number and the place of each.
+// The outcome of writing: the numbers of the CNF that was written, the problem's refusal, or the words needed; `answer` gives the number and the place of each.
 pub enum Encoded {
-    Written(usize),
+    Written(Counts),
     Problem(Refusal),
     RoomTooSmall(usize),
-}
-
-// The numbers of a CNF.
-pub struct Counts {
-    pub variables: usize,
-    pub clauses: usize,
-    pub words: usize,
-}
-
-// The outcome of counting: the numbers of a good problem's CNF, or the problem's refusal.
-pub enum ProblemCounted {
-    Good(Counts),
-    Refused(Refusal),
 }
 
 // The outcome of writing for a refutation: the numbers of the CNF that was written, or a refusal before it.

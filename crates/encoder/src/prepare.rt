@@ -1,30 +1,28 @@
 // The CNF of a problem for a refutation: it is written only where all that is checked before the steps is right.
-use crate::Counts;
 use crate::Prepared;
 use crate::encode::all_items;
-use crate::encode::count_good;
 use problem::Checked;
-use problem::Outline;
+use problem::ProblemRecord;
 use problem::check::check;
 use refutation::WordsCounted;
 use refutation::words::count_steps;
 ghost use Prim.Native.Nat.{_<_};
-ghost use Rattle.problem.specs.Promise.{problem-in, ProperIn};
+ghost use Rattle.problem.specs.Promise.{problem-in, CountedIn};
 ghost use Rattle.encoder.specs.Preparing.{PreparedAs, PreparedFor};
 
-// 6, 11 and 12, by the numbers of the CNF alone, and then the CNF.
+// 6, 11 and 12, by the record's numbers, and then the CNF.
 fn prepare_good(
     words: &[u32],
-    s: Outline,
+    g: ProblemRecord,
     refutation: &[i32],
     room: &mut [i32],
     numbers: usize,
     places: usize,
 ) -> Prepared
-    requires { ⌜ ProperIn s (now words) ⌝ }
-    ensures { λ r. ⌜ PreparedFor (problem-in s (now (words .entry))) (now (refutation .entry)) numbers places (now (room .entry)) r (now (room .exit)) ⌝ }
+    requires { ⌜ CountedIn g (now words) ⌝ }
+    ensures { λ r. ⌜ PreparedFor (problem-in (g .outline) (now (words .entry))) (now (refutation .entry)) numbers places (now (room .entry)) r (now (room .exit)) ⌝ }
 {
-    let n = count_good(words, s);
+    let ProblemRecord { outline, counts: n } = g;
     if room.len() < n.words {
         return Prepared::RoomTooSmall(n.words);
     }
@@ -40,11 +38,8 @@ fn prepare_good(
     if places < places_needed {
         return Prepared::AreaTooSmall(places_needed);
     }
-    Prepared::Written(Counts {
-        variables: n.variables,
-        clauses: n.clauses,
-        words: all_items(words, s, room),
-    })
+    all_items(words, outline, room);
+    Prepared::Written(n)
 }
 
 // 15, 1 to 6, 11 and 12, or the CNF written; the last two numbers are the lengths of the work areas. At a refusal the room stays as it was.
@@ -60,7 +55,7 @@ pub fn prepare(
 {
     let checked = check(version, words);
     match checked {
-        Checked::Good(s) => prepare_good(words, s, refutation, room, numbers, places),
+        Checked::Good(g) => prepare_good(words, g, refutation, room, numbers, places),
         Checked::Refused(f) => Prepared::Problem(f),
     }
 }

@@ -4,7 +4,7 @@ use mathlib.Core.Bool.{Bool, true, false, cond}
 use mathlib.Core.List.{List}
 use Prim.Native.Nat.{ℕ, _≤_}
 use native.Mathlib.Omega.{arith}
-use borrow.Author.Tests.{eqb-true, eqb-false, eq-eqb, ne-eqb}
+use borrow.Author.Tests.{eq-eqb, ne-eqb}
 use lib.Dec.{eqb}
 use lib.IntN.{ℤ, pos}
 use lib.ListN.{length, take, drop, replicate, length-append, length-replicate}
@@ -13,17 +13,15 @@ use Rattle.clauses.proofs.Answers.{first-failing-passed, all-pass-if-granted, r
 use Rattle.meaning.specs.Limits.{program-room}
 use Rattle.meaning.specs.Problem.{problem}
 use Rattle.meaning.specs.Cnf.{cnf, variables}
-use Rattle.meaning.specs.Calls.{check-problem, write-cnf}
+use Rattle.meaning.specs.Calls.{write-cnf}
 use Rattle.meaning.specs.JobFile.{job-version, job-words, job-checks, job-answer, job-problem, cnf-text, refusal-line, printed}
 use Rattle.meaning.proofs.Check.{proper-if-well-formed}
-use Rattle.meaning.proofs.Calls.{write-cnf-is, job-answer-is}
-use Rattle.problem.specs.declared.Refusal.{Refusal}
-use Rattle.problem.specs.Promise.{refusal-answer}
+use Rattle.meaning.proofs.Calls.{job-answer-is}
 use Rattle.problem.proofs.Unique.{refusal-not-yes}
-use Rattle.problem.proofs.Formed.{refused-whatever}
-use Rattle.encoder.specs.declared.Counts.{Counts}
+use Rattle.counts.specs.declared.Counts.{Counts}
 use Rattle.encoder.specs.declared.Encoded.{Encoded}
-use Rattle.encoder.specs.Promise.{answer-of, EncodedAs, counts-of}
+use Rattle.encoder.specs.declared.Encoded.the-variants.{Written, Problem, RoomTooSmall}
+use Rattle.encoder.specs.Promise.{answer-of, EncodedAs}
 use Rattle.job_file.specs.declared.job.Job.{Job}
 use Rattle.job_file.specs.declared.job.JobAnswer.the-variants.{Good, Bad}
 use Rattle.job_file.specs.Text.{flat-text, encoded-text}
@@ -84,29 +82,26 @@ module _ (bs : List ℕ) where
           (job-answer-is bs
           ∙ first-failing-passed (job-checks bs) _ (all-pass-if-granted (job-checks bs) (granted 0) (job-checks-refusing bs) bytes-right)))
 
-      -- A refusal of the check of the words is that of writing, and the job's.
-      pub text-if-words-refused : (f : Refusal) → refusal-answer f ≡ check-problem (j .version) words → refusal-line (refusal-answer f) ≡ printed bs
-      text-if-words-refused f e =
-          sym
-          (text-if-refused (refusal-not-yes f)
-          (refused-whatever (j .version) words f _ e ∙ sym (write-cnf-is (j .version) words program-room) ∙ answer-is))
+      abbrev Encodes : Encoded → List ℤ → Type 0
+      Encodes = EncodedAs (j .version) words (replicate program-room (pos 0))
 
-      module _ {r : Encoded} {after : List ℤ} {c : Counts}
-          (e : EncodedAs (j .version) words (replicate program-room (pos 0)) r after) (numbered : c ≡ counts-of (problem (j .version) words)) where
-        answered : answer-of r ≡ job-answer bs
-        answered = rw length-replicate at (e .answered) ∙ answer-is
+      answered : {r : Encoded} {after : List ℤ} → Encodes r after → answer-of r ≡ job-answer bs
+      answered e = rw length-replicate at (e .answered) ∙ answer-is
 
-        text-if-written : answer-of r .number ≡ 0 → flat-text (c .variables) (c .clauses) (take (answer-of r .place) after) ≡ printed bs
-        text-if-written granted-0 =
-            let well = well-if-written (j .version) words program-room (number-of (answer-is ∙ sym answered) ∙ granted-0) in
-            rw (numbered, cnf-there (j .version) words e granted-0)
-            (text-of-cnf (problem (j .version) words) (proper-if-well-formed (j .version) words well)
-            ∙ rw (version-is, words-are) (sym (text-if-yes (number-of (sym answered) ∙ granted-0))))
+      -- The numbers that writing handed on head the words that it wrote.
+      text-if-written : {n : Counts} {after : List ℤ} → Encodes (Written n) after → flat-text (n .variables) (n .clauses) (take (n .words) after) ≡ printed bs
+      text-if-written e =
+          let well = well-if-written (j .version) words program-room (number-of (answer-is ∙ sym (answered e))) in
+          let variables-are = ap (λ (c : Counts). c .variables) (e .numbered) in
+          let clauses-are = ap (λ (c : Counts). c .clauses) (e .numbered) in
+          rw (variables-are, clauses-are, cnf-there (j .version) words e refl)
+          (text-of-cnf (problem (j .version) words) (proper-if-well-formed (j .version) words well)
+          ∙ rw (version-is, words-are) (sym (text-if-yes (number-of (sym (answered e))))))
 
-        pub text-if-encoded : encoded-text r c after ≡ printed bs
-        text-if-encoded = go (eqb (answer-of r .number) 0) refl
-          where
-            go : (b : Bool) → eqb (answer-of r .number) 0 ≡ b
-                → cond b (flat-text (c .variables) (c .clauses) (take (answer-of r .place) after)) (refusal-line (answer-of r)) ≡ printed bs
-            go true p = text-if-written (eqb-true _ _ p)
-            go false p = sym (text-if-refused (eqb-false _ _ p) answered)
+      pub text-if-encoded : {r : Encoded} {after : List ℤ} → Encodes r after → encoded-text r after ≡ printed bs
+      text-if-encoded {r} {after} e = go r e
+        where
+          go : (r : Encoded) → Encodes r after → encoded-text r after ≡ printed bs
+          go (Written n) e = text-if-written e
+          go (Problem f) e = sym (text-if-refused (refusal-not-yes f) (answered e))
+          go (RoomTooSmall n) e = sym (text-if-refused (λ z. omega arith) (answered e))

@@ -30,7 +30,7 @@ use Rattle.meaning.proofs.Calls.{write-cnf-is, job-answer-is}
 use Rattle.meaning.proofs.ItemByItem.{_and_, all-of-joined}
 use Rattle.meaning.proofs.Numbers.{all-of-each-below}
 use Rattle.meaning.proofs.Ranges.{literals-within, variables-fit}
-use Rattle.encoder.proofs.CountsFit.{words-small}
+use Rattle.meaning.proofs.AllLimits.{largest-if-proper}
 use Rattle.job_file.specs.declared.text.Printed.the-variants.{Short}
 use Rattle.job_file.specs.Text.{text-limit}
 use Rattle.job_file.specs.Promise.{Prints}
@@ -120,7 +120,7 @@ module _ (p : Problem) (proper : Proper p) where
       rw (← text-of-cnf p proper) (omega arith)
 
   words-few : length (cnf-words p) < place-limit
-  words-few = words-small p proper
+  words-few = omega (arith, largest-if-proper p proper)
 
 -- ════════ The answer to words ════════
 

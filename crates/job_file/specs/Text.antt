@@ -3,15 +3,14 @@ use mathlib.Core.Path.{_≡_}
 use mathlib.Core.Bool.{cond}
 use mathlib.Core.List.{List, _++_}
 use Prim.Native.Nat.{ℕ, _+_, _*_}
-use lib.Dec.{eqb}
 use lib.IntN.{ℤ}
 use lib.ListN.{length, take, drop}
 use Rattle.clauses.specs.Lists.{each, written}
 use Rattle.clauses.specs.CnfWords.{is-0}
 use Rattle.meaning.specs.Limits.{program-room}
 use Rattle.meaning.specs.JobFile.{bytes-of, decimal, signed-decimal, header-line, refusal-line}
-use Rattle.encoder.specs.declared.Counts.{Counts}
 use Rattle.encoder.specs.declared.Encoded.{Encoded}
+use Rattle.encoder.specs.declared.Encoded.the-variants.{Written, Problem, RoomTooSmall}
 use Rattle.encoder.specs.Promise.{answer-of}
 
 -- ════════ The text ════════
@@ -30,10 +29,11 @@ flat-text v c ws = header-line v c ++ words-text ws
 abbrev pub line-of : List ℕ → ℕ → List ℕ → ℕ → List ℕ
 line-of opening first between second = opening ++ decimal first ++ between ++ decimal second ++ bytes-of "\n"
 
--- What is printed by the outcome of writing: the text of the counts and of the words that were written to the room, or the refusal's line.
-abbrev pub encoded-text : Encoded → Counts → List ℤ → List ℕ
-encoded-text r c room =
-    cond (eqb (answer-of r .number) 0) (flat-text (c .variables) (c .clauses) (take (answer-of r .place) room)) (refusal-line (answer-of r))
+-- What is printed by the outcome of writing: the text of the CNF's numbers and of the words that were written to the room, or the refusal's line.
+abbrev pub encoded-text : Encoded → List ℤ → List ℕ
+encoded-text (Written n) room = flat-text (n .variables) (n .clauses) (take (n .words) room)
+encoded-text (Problem f) room = refusal-line (answer-of (Problem f))
+encoded-text (RoomTooSmall n) room = refusal-line (answer-of (RoomTooSmall n))
 
 -- Bytes enough for every text of the program: 12 for each of its CNF words (a sign, ten digits, a space), and 28 for the header (8 of its
 -- own, ten digits for each of its numbers).

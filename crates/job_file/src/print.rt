@@ -6,15 +6,10 @@ use crate::job::read_job;
 use crate::text::Printed;
 use crate::text::cnf_text;
 use crate::text::refusal_text;
-use encoder::Counts;
 use encoder::Encoded;
-use encoder::ProblemCounted;
 use encoder::answer::number;
 use encoder::answer::place;
-use encoder::encode::counts;
 use encoder::encode::write_cnf;
-use problem::answer::refusal_number;
-use problem::answer::refusal_place;
 ghost use mathlib.Core.Path.{_≡_};
 ghost use Prim.Native.Nat.{_≤_};
 ghost use lib.ListN.{length};
@@ -27,12 +22,12 @@ ghost use Rattle.job_file.specs.Promise.{Prints};
 pub const PROGRAM_ROOM: usize = 8192;
 
 // The text of the CNF that was written to the room, or the line of a refusal.
-fn print_encoded(r: Encoded, c: Counts, room: &[i32], out: &mut [u8]) -> Printed
+fn print_encoded(r: Encoded, room: &[i32], out: &mut [u8]) -> Printed
     requires { ⌜ (answer-of r .number ≡ 0 → answer-of r .place ≤ length (now room)) ⌝ }
-    ensures { λ p. ⌜ Prints (encoded-text r c (now (room .entry))) (now (out .entry)) p (now (out .exit)) ⌝ }
+    ensures { λ p. ⌜ Prints (encoded-text r (now (room .entry))) (now (out .entry)) p (now (out .exit)) ⌝ }
 {
     match r {
-        Encoded::Written(n) => cnf_text(c.variables, c.clauses, &room[..n], out),
+        Encoded::Written(n) => cnf_text(n.variables, n.clauses, &room[..n.words], out),
         _ => refusal_text(number(r), place(r), out),
     }
 }
@@ -50,12 +45,7 @@ pub fn print_job(bytes: &[u8], out: &mut [u8]) -> Printed
     let count = job.count;
     let held = job.words;
     let words = &held[..count];
-    match counts(version, words) {
-        ProblemCounted::Good(c) => {
-            let mut room = [0i32; PROGRAM_ROOM];
-            let encoded = write_cnf(version, words, &mut room);
-            print_encoded(encoded, c, &room, out)
-        }
-        ProblemCounted::Refused(f) => refusal_text(refusal_number(f), refusal_place(f), out),
-    }
+    let mut room = [0i32; PROGRAM_ROOM];
+    let encoded = write_cnf(version, words, &mut room);
+    print_encoded(encoded, &room, out)
 }

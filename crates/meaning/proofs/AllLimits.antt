@@ -186,7 +186,7 @@ some-equal [] l e = absurd (omega arith)
 some-equal (x ∷ xs) l e = rw e (omega arith)
 
 -- Each item grows with what is counted. Until and Release are the heaviest forms, and one node at least has the lightest, x=a.
-largest-if-proper : (p : Problem) → Proper p → length (cnf-words p) ≤ 437_012
+pub largest-if-proper : (p : Problem) → Proper p → length (cnf-words p) ≤ 437_012
 unfolding word-count latches-limit gates-limit nodes-limit bound-limit
 largest-if-proper p proper =
     let t = tally p in

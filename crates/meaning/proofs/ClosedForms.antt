@@ -1,6 +1,6 @@
 -- The numbers of variables, clauses and words of a problem's CNF, in closed form. Nobody has to believe them: they are proved equal to those
--- of the CNF itself, V for a problem with a node (`variable-count-is`, `clause-count-is`, `word-count-is` of proofs/Counts), and no promise names
--- them. Assumes nothing.
+-- of the CNF itself, V for a problem with a node (`variable-count-is`, `clause-count-is`, `word-count-is` of proofs/Counts), and of the promises only
+-- that of `counts::total::counts`, below the check, names them. Assumes nothing.
 use mathlib.Core.Bool.{Bool, true, false}
 use mathlib.Core.List.{List, [], _∷_}
 use Prim.Native.Nat.{ℕ, suc, _+_, _*_, _-_, _/_}

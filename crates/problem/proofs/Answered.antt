@@ -1,5 +1,5 @@
 -- Laws of what the parts of the check answer: checks one after another, parts one after another, and a loop over numbers. Assumes nothing.
-use mathlib.Core.Path.{_≡_, refl, sym, _∙_}
+use mathlib.Core.Path.{_≡_, refl, sym, _∙_, ap}
 use mathlib.Core.Bool.{Bool, true, false}
 use mathlib.Core.List.{List, [], _∷_, _++_}
 use Prim.Native.Nat.{ℕ, suc, _+_, _-_, _≤_, _<_}
@@ -21,6 +21,12 @@ use Rattle.problem.proofs.check.PartAnswer.{the-type}
 pub is-passed : (r : PartAnswer) → tagOf the-type r ≡ 0 → r ≡ Passed
 is-passed Passed e = refl
 is-passed (Refused f) e = absurd (omega arith)
+
+pub refused-not-passed : (r : PartAnswer) → tagOf the-type r ≡ 1 → r ≡ Passed → ⊥
+refused-not-passed r t e = let z : _≡_ {A = ℕ} 1 0 = sym t ∙ ap (tagOf the-type) e in omega arith
+
+pub not-both : {f : Refusal} → Refused f ≡ Passed → ⊥
+not-both e = let z : _≡_ {A = ℕ} 1 0 = ap (tagOf the-type) e in omega arith
 
 -- What answers for some parts also does under another name.
 pub answers-by : {ps : List (List Check)} {r r′ : PartAnswer} → r ≡ r′ → Answers ps r → Answers ps r′

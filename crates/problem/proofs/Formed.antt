@@ -14,16 +14,27 @@ use Rattle.meaning.specs.Proper.{InLimits}
 use Rattle.meaning.specs.Calls.{WellFormed, outline-parts, check-problem}
 use Rattle.meaning.proofs.ItemByItem.{all-of-joined}
 use Rattle.meaning.proofs.Check.{first-failing-refused, in-limits-if-pass, problem-checked, not-well-formed, proper-if-well-formed, width-of-words}
+use Rattle.counts.specs.declared.Counts.{Counts}
+use Rattle.counts.specs.Promise.{counts-of}
 use Rattle.problem.specs.declared.Outline.{Outline}
+use Rattle.problem.specs.declared.ProblemRecord.{ProblemRecord}
 use Rattle.problem.specs.declared.Refusal.{Refusal}
 use Rattle.problem.specs.declared.Checked.{Checked}
 use Rattle.problem.specs.declared.Checked.the-variants as Checked
 use Rattle.problem.specs.declared.check.PartAnswer.{PartAnswer}
 use Rattle.problem.specs.declared.check.PartAnswer.the-variants.{Passed, Refused}
-use Rattle.problem.specs.Promise.{refusal-answer, outline-of, problem-in, ProperIn, CheckedAs}
+use Rattle.problem.specs.Promise.{refusal-answer, outline-of, problem-in, ProperIn, CountedIn, Outlined, CheckedAs}
 use Rattle.problem.specs.CheckParts.{Answers, Fitting}
 use Rattle.problem.proofs.Unique.{refusal-not-yes}
 use Rattle.problem.proofs.Answered.{passed-first, refused-first}
+
+-- ════════ The outline ════════
+
+proper-if-outlined : {version : ℕ} {ws : List ℕ} {s : Outline} → WellFormed version ws → Outlined version ws s → ProperIn s ws
+proper-if-outlined {version} {ws} formed outlined = record {
+  proper = rw (outlined .problem-is) (proper-if-well-formed version ws formed);
+  width-is = rw (outlined .problem-is) (width-of-words version ws ∙ ap (λ o. o .width) (sym (outlined .outline-is)));
+}
 
 -- ════════ The parts ════════
 
@@ -65,7 +76,7 @@ module _ (version : ℕ) (ws : List ℕ) where
 
   pub refused-by-opening : {f : Refusal} → Answers (opening version ws) (Refused f) → CheckedAs version ws (Checked.Refused f)
   unfolding check-problem
-  refused-by-opening a = record { answered = refused-first (opening version ws) (outline-parts (outline version ws) ws) a .answered (granted 0); outlined = tt }
+  refused-by-opening a = record { answered = refused-first (opening version ws) (outline-parts (outline version ws) ws) a .answered (granted 0); outlined = tt; counted = tt }
 
   module _ {s : Outline} (passed : Answers (opening version ws) Passed) (is : outline-of s ≡ outline version ws) where
     all : {r : PartAnswer} → Answers (outline-parts (outline-of s) ws) r → Answers (header-checks version ws ∷ limit-checks ws ∷ outline-parts (outline version ws) ws) r
@@ -73,26 +84,40 @@ module _ (version : ℕ) (ws : List ℕ) where
 
     pub refused-by-parts : {f : Refusal} → Answers (outline-parts (outline-of s) ws) (Refused f) → CheckedAs version ws (Checked.Refused f)
     unfolding check-problem
-    refused-by-parts b = record { answered = all b .answered (granted 0); outlined = tt }
+    refused-by-parts b = record { answered = all b .answered (granted 0); outlined = tt; counted = tt }
 
-    pub good-by-parts : Answers (outline-parts (outline-of s) ws) Passed → CheckedAs version ws (Checked.Good s)
-    unfolding check-problem problem-in problem
-    good-by-parts b = record {
-      answered = all b .answered (granted 0);
-      outlined = record { outline-is = is; problem-is = ap (λ o. problem-by o ws) is };
-    }
+    -- Where all parts pass, the outline shows a proper problem, that of the version and the words.
+    module _ (parts : Answers (outline-parts (outline-of s) ws) Passed) where
+      formed : WellFormed version ws
+      unfolding check-problem
+      formed = sym (all parts .answered (granted 0))
+
+      pub outlined-by-parts : Outlined version ws s
+      unfolding problem-in problem
+      outlined-by-parts = record { outline-is = is; problem-is = ap (λ o. problem-by o ws) is }
+
+      pub proper-by-parts : ProperIn s ws
+      proper-by-parts = proper-if-outlined formed outlined-by-parts
+
+      pub good-by-parts : {c : Counts} → c ≡ counts-of (problem-in s ws) → CheckedAs version ws (Checked.Good (record { outline = s; counts = c }))
+      good-by-parts e = record {
+        answered = sym formed;
+        outlined = outlined-by-parts;
+        counted = rw (outlined-by-parts .problem-is) at e;
+      }
 
 -- ════════ What a yes says ════════
 
-module _ {version : ℕ} {ws : List ℕ} {s : Outline} (good : CheckedAs version ws (Checked.Good s)) where
+module _ {version : ℕ} {ws : List ℕ} {g : ProblemRecord} (good : CheckedAs version ws (Checked.Good g)) where
   pub well-formed-if-good : WellFormed version ws
   well-formed-if-good = sym (good .answered)
 
-  pub proper-if-good : ProperIn s ws
-  proper-if-good = record {
-    proper = rw (good .outlined .problem-is) (proper-if-well-formed version ws well-formed-if-good);
-    width-is = rw (good .outlined .problem-is) (width-of-words version ws ∙ ap (λ o. o .width) (sym (good .outlined .outline-is)));
-  }
+  pub proper-if-good : ProperIn (g .outline) ws
+  proper-if-good = proper-if-outlined well-formed-if-good (good .outlined)
+
+  -- Its numbers are those of the problem that its outline shows.
+  pub counted-if-good : CountedIn g ws
+  counted-if-good = record { proper-in = proper-if-good; counts-are = rw (good .outlined .problem-is) (good .counted) }
 
 -- ════════ What comes after the check ════════
 

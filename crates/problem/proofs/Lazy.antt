@@ -6,15 +6,17 @@ use native.Mathlib.Omega.{arith}
 use Rattle.clauses.specs.Answers.{Answer}
 use Rattle.clauses.proofs.Answers.{number-of, place-of}
 use Rattle.meaning.specs.Limits.{inputs-limit, latches-limit, gates-limit, nodes-limit, bound-limit}
-use Rattle.meaning.specs.Problem.{header-words, problem}
+use Rattle.meaning.specs.Problem.{header-words, problem-by, problem}
 use Rattle.meaning.specs.Cases.{T-words, H}
+use Rattle.meaning.specs.Cnf.{variables, cnf, cnf-words}
 use Rattle.meaning.specs.Calls.{check-problem}
 use Rattle.problem.specs.declared.Outline.{Outline}
+use Rattle.problem.specs.declared.ProblemRecord.{ProblemRecord}
 use Rattle.problem.specs.declared.Refusal.{Refusal}
 use Rattle.problem.specs.declared.Refusal.the-variants.{BadLength, BadReset, BadLiteral, BadNode}
 use Rattle.problem.specs.declared.Checked.{Checked}
 use Rattle.problem.specs.declared.Checked.the-variants.{Good, Refused}
-use Rattle.problem.specs.Promise.{answer-of, problem-in, Outlined, OutlinedBy, CheckedAs}
+use Rattle.problem.specs.Promise.{answer-of, problem-in, Outlined, OutlinedBy, CountedBy, CheckedAs}
 use Rattle.problem.proofs.Unique.{checked-unique, outline-unique}
 
 -- ════════ What it is to break the promise ════════
@@ -39,9 +41,9 @@ Breaks x r = ¬ (Meets x r)
 
 -- Whatever is not the right outcome breaks it; so does another number, and another place.
 module _ (x : Input) (r : Checked) (right : answer-of (x .right) ≡ laid-down x) where
-  pub other : OutlinedBy (x .version) (x .words) (x .right) → ¬ (r ≡ x .right) → Breaks x r
+  pub other : OutlinedBy (x .version) (x .words) (x .right) → CountedBy (x .version) (x .words) (x .right) → ¬ (r ≡ x .right) → Breaks x r
   unfolding laid-down
-  other outlined h m = h (checked-unique (x .version) (x .words) r (x .right) m (record { answered = right; outlined = outlined }))
+  other outlined counted h m = h (checked-unique (x .version) (x .words) r (x .right) m (record { answered = right; outlined = outlined; counted = counted }))
 
   pub other-number : ¬ (answer-of r .number ≡ answer-of (x .right) .number) → Breaks x r
   unfolding laid-down
@@ -51,9 +53,9 @@ module _ (x : Input) (r : Checked) (right : answer-of (x .right) ≡ laid-down x
   unfolding laid-down
   other-place h m = h (place-of (m .answered ∙ sym right))
 
--- Words under version 1, and their outline or their refusal.
-abbrev pub good : List ℕ → Outline → Input
-good words s = record { version = 1; words = words; right = Good s }
+-- Words under version 1, and their record or their refusal.
+abbrev pub good : List ℕ → ProblemRecord → Input
+good words g = record { version = 1; words = words; right = Good g }
 
 abbrev pub bad : List ℕ → Refusal → Input
 bad words f = record { version = 1; words = words; right = Refused f }
@@ -67,37 +69,46 @@ T-with next reset op a b = 0 ∷ 1 ∷ 0 ∷ 1 ∷ 0 ∷ next ∷ reset ∷ op �
 abbrev pub T-outline : Outline
 T-outline = record { inputs = 0; latches = 1; gates = 0; nodes = 1; bound = 0; width = 1; «latches_from» = 5; «gates_from» = 7; «nodes_from» = 7 }
 
+abbrev pub T-record : ProblemRecord
+T-record = record { outline = T-outline; counts = record { variables = 6; clauses = 12; words = 37 } }
+
 abbrev pub T : Input
-T = good T-words T-outline
+T = good T-words T-record
 
 right-outline : Outlined 1 T-words T-outline
 unfolding header-words problem-in problem
 right-outline = record { outline-is = refl; problem-is = refl }
 
-pub refuses-all-breaks : (r : Checked) → ¬ (r ≡ Good T-outline) → Breaks T r
-unfolding laid-down
-refuses-all-breaks r = other T r refl right-outline
+pub T-meets : Meets T (Good T-record)
+unfolding laid-down header-words problem-in problem-by problem variables cnf cnf-words
+T-meets = record { answered = refl; outlined = right-outline; counted = refl }
 
-pub made-up-outline-breaks : (s : Outline) → ¬ (s ≡ T-outline) → Breaks T (Good s)
-made-up-outline-breaks s h m = h (outline-unique s T-outline (m .outlined .outline-is ∙ sym (right-outline .outline-is)))
+pub refuses-all-breaks : (r : Checked) → ¬ (r ≡ Good T-record) → Breaks T r
+refuses-all-breaks r h m = h (checked-unique 1 T-words r (Good T-record) m T-meets)
+
+pub made-up-outline-breaks : (g : ProblemRecord) → ¬ (g .outline ≡ T-outline) → Breaks T (Good g)
+made-up-outline-breaks g h m = h (outline-unique (g .outline) T-outline (m .outlined .outline-is ∙ sym (right-outline .outline-is)))
 
 -- H with 12 R 1 at k = 3: 0 2 4 3 3, 3 0, 11 0, 2 5, 3 4, 7 9, 2 4, 0 12 0, 0 1 0, 7 0 1
 abbrev pub H-release : Input
 H-release =
     good (H 3 3 (0 ∷ 12 ∷ 0 ∷ 0 ∷ 1 ∷ 0 ∷ 7 ∷ 0 ∷ 1 ∷ []))
-    (record { inputs = 0; latches = 2; gates = 4; nodes = 3; bound = 3; width = 6; «latches_from» = 5; «gates_from» = 9; «nodes_from» = 17 })
+    (record {
+      outline = record { inputs = 0; latches = 2; gates = 4; nodes = 3; bound = 3; width = 6; «latches_from» = 5; «gates_from» = 9; «nodes_from» = 17 };
+      counts = record { variables = 56; clauses = 177; words = 616 };
+    })
 
 pub accepts-only-T-breaks : (r : Checked) → ¬ (r ≡ H-release .right) → Breaks H-release r
-unfolding laid-down header-words problem-in problem
-accepts-only-T-breaks r = other H-release r refl (record { outline-is = refl; problem-is = refl })
+unfolding laid-down header-words problem-in problem-by problem variables cnf cnf-words
+accepts-only-T-breaks r = other H-release r refl (record { outline-is = refl; problem-is = refl }) refl
 
 -- No words at all
 abbrev pub no-words : Input
 no-words = bad [] (BadLength 0)
 
-pub accepts-all-breaks : (s : Outline) → Breaks no-words (Good s)
+pub accepts-all-breaks : (g : ProblemRecord) → Breaks no-words (Good g)
 unfolding laid-down
-accepts-all-breaks s = other-number no-words (Good s) refl (λ e. omega arith)
+accepts-all-breaks g = other-number no-words (Good g) refl (λ e. omega arith)
 
 -- ════════ A check left out ════════
 
@@ -145,51 +156,51 @@ left-itself = bad (0 ∷ 0 ∷ 1 ∷ 1 ∷ 0 ∷ 2 ∷ 0 ∷ 0 ∷ 0 ∷ 0 ∷ [
 abbrev pub right-itself : Input
 right-itself = bad (0 ∷ 0 ∷ 1 ∷ 1 ∷ 0 ∷ 0 ∷ 3 ∷ 0 ∷ 0 ∷ 0 ∷ []) (BadLiteral 6)
 
--- Each takes its input for a good problem, of whatever outline.
-module _ (s : Outline) where
-  pub length-not-checked-breaks : Breaks T-cut (Good s)
+-- Each takes its input for a good problem, of whatever record.
+module _ (g : ProblemRecord) where
+  pub length-not-checked-breaks : Breaks T-cut (Good g)
   unfolding laid-down
-  length-not-checked-breaks = other-number T-cut (Good s) refl (λ e. omega arith)
+  length-not-checked-breaks = other-number T-cut (Good g) refl (λ e. omega arith)
 
-  pub reset-not-checked-breaks : Breaks T-reset (Good s)
+  pub reset-not-checked-breaks : Breaks T-reset (Good g)
   unfolding laid-down
-  reset-not-checked-breaks = other-number T-reset (Good s) refl (λ e. omega arith)
+  reset-not-checked-breaks = other-number T-reset (Good g) refl (λ e. omega arith)
 
-  pub next-past-the-variables-breaks : Breaks T-next (Good s)
+  pub next-past-the-variables-breaks : Breaks T-next (Good g)
   unfolding laid-down
-  next-past-the-variables-breaks = other-number T-next (Good s) refl (λ e. omega arith)
+  next-past-the-variables-breaks = other-number T-next (Good g) refl (λ e. omega arith)
 
-  pub atom-past-the-variables-breaks : Breaks T-atom (Good s)
+  pub atom-past-the-variables-breaks : Breaks T-atom (Good g)
   unfolding laid-down
-  atom-past-the-variables-breaks = other-number T-atom (Good s) refl (λ e. omega arith)
+  atom-past-the-variables-breaks = other-number T-atom (Good g) refl (λ e. omega arith)
 
-  pub op-8-breaks : Breaks T-op (Good s)
+  pub op-8-breaks : Breaks T-op (Good g)
   unfolding laid-down
-  op-8-breaks = other-number T-op (Good s) refl (λ e. omega arith)
+  op-8-breaks = other-number T-op (Good g) refl (λ e. omega arith)
 
-  pub unused-b-breaks : Breaks T-b (Good s)
+  pub unused-b-breaks : Breaks T-b (Good g)
   unfolding laid-down
-  unused-b-breaks = other-number T-b (Good s) refl (λ e. omega arith)
+  unused-b-breaks = other-number T-b (Good g) refl (λ e. omega arith)
 
-  pub G-with-two-children-breaks : Breaks G-of-two (Good s)
+  pub G-with-two-children-breaks : Breaks G-of-two (Good g)
   unfolding laid-down
-  G-with-two-children-breaks = other-number G-of-two (Good s) refl (λ e. omega arith)
+  G-with-two-children-breaks = other-number G-of-two (Good g) refl (λ e. omega arith)
 
-  pub node-is-its-own-child-breaks : Breaks T-itself (Good s)
+  pub node-is-its-own-child-breaks : Breaks T-itself (Good g)
   unfolding laid-down
-  node-is-its-own-child-breaks = other-number T-itself (Good s) refl (λ e. omega arith)
+  node-is-its-own-child-breaks = other-number T-itself (Good g) refl (λ e. omega arith)
 
-  pub node-is-its-own-second-child-breaks : Breaks both-itself (Good s)
+  pub node-is-its-own-second-child-breaks : Breaks both-itself (Good g)
   unfolding laid-down
-  node-is-its-own-second-child-breaks = other-number both-itself (Good s) refl (λ e. omega arith)
+  node-is-its-own-second-child-breaks = other-number both-itself (Good g) refl (λ e. omega arith)
 
-  pub gate-reads-itself-breaks : Breaks left-itself (Good s)
+  pub gate-reads-itself-breaks : Breaks left-itself (Good g)
   unfolding laid-down
-  gate-reads-itself-breaks = other-number left-itself (Good s) refl (λ e. omega arith)
+  gate-reads-itself-breaks = other-number left-itself (Good g) refl (λ e. omega arith)
 
-  pub gate-reads-itself-on-the-right-breaks : Breaks right-itself (Good s)
+  pub gate-reads-itself-on-the-right-breaks : Breaks right-itself (Good g)
   unfolding laid-down
-  gate-reads-itself-on-the-right-breaks = other-number right-itself (Good s) refl (λ e. omega arith)
+  gate-reads-itself-on-the-right-breaks = other-number right-itself (Good g) refl (λ e. omega arith)
 
 -- ════════ Places that are made up ════════
 

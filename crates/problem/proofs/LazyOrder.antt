@@ -7,7 +7,7 @@ use native.Mathlib.Omega.{arith}
 use lib.ListN.{replicate}
 use Rattle.meaning.specs.Limits.{inputs-limit, latches-limit, gates-limit, nodes-limit, bound-limit}
 use Rattle.meaning.specs.Cases.{T-words}
-use Rattle.problem.specs.declared.Outline.{Outline}
+use Rattle.problem.specs.declared.ProblemRecord.{ProblemRecord}
 use Rattle.problem.specs.declared.Refusal.the-variants.{BadVersion, BadLength, OutsideLimits, BadReset, BadLiteral, BadNode}
 use Rattle.problem.specs.declared.Checked.{Checked}
 use Rattle.problem.specs.declared.Checked.the-variants.{Good, Refused}
@@ -39,34 +39,34 @@ no-nodes = bad (0 ∷ 1 ∷ 0 ∷ 0 ∷ 0 ∷ 3 ∷ 0 ∷ []) (OutsideLimits 3)
 abbrev pub nodes-past-16-bits : Input
 nodes-past-16-bits = bad (0 ∷ 1 ∷ 0 ∷ 65_537 ∷ 0 ∷ 3 ∷ 0 ∷ 0 ∷ 2 ∷ 0 ∷ []) (OutsideLimits 3)
 
-module _ (s : Outline) where
-  pub inputs-limit-too-large-breaks : Breaks inputs-over (Good s)
+module _ (g : ProblemRecord) where
+  pub inputs-limit-too-large-breaks : Breaks inputs-over (Good g)
   unfolding laid-down inputs-limit
-  inputs-limit-too-large-breaks = other-number inputs-over (Good s) refl (λ e. omega arith)
+  inputs-limit-too-large-breaks = other-number inputs-over (Good g) refl (λ e. omega arith)
 
-  pub latches-limit-too-large-breaks : Breaks latches-over (Good s)
+  pub latches-limit-too-large-breaks : Breaks latches-over (Good g)
   unfolding laid-down latches-limit
-  latches-limit-too-large-breaks = other-number latches-over (Good s) refl (λ e. omega arith)
+  latches-limit-too-large-breaks = other-number latches-over (Good g) refl (λ e. omega arith)
 
-  pub gates-limit-too-large-breaks : Breaks gates-over (Good s)
+  pub gates-limit-too-large-breaks : Breaks gates-over (Good g)
   unfolding laid-down gates-limit
-  gates-limit-too-large-breaks = other-number gates-over (Good s) refl (λ e. omega arith)
+  gates-limit-too-large-breaks = other-number gates-over (Good g) refl (λ e. omega arith)
 
-  pub nodes-limit-too-large-breaks : Breaks nodes-over (Good s)
+  pub nodes-limit-too-large-breaks : Breaks nodes-over (Good g)
   unfolding laid-down nodes-limit
-  nodes-limit-too-large-breaks = other-number nodes-over (Good s) refl (λ e. omega arith)
+  nodes-limit-too-large-breaks = other-number nodes-over (Good g) refl (λ e. omega arith)
 
-  pub bound-limit-too-large-breaks : Breaks bound-over (Good s)
+  pub bound-limit-too-large-breaks : Breaks bound-over (Good g)
   unfolding laid-down bound-limit
-  bound-limit-too-large-breaks = other-number bound-over (Good s) refl (λ e. omega arith)
+  bound-limit-too-large-breaks = other-number bound-over (Good g) refl (λ e. omega arith)
 
-  pub no-nodes-breaks : Breaks no-nodes (Good s)
+  pub no-nodes-breaks : Breaks no-nodes (Good g)
   unfolding laid-down
-  no-nodes-breaks = other-number no-nodes (Good s) refl (λ e. omega arith)
+  no-nodes-breaks = other-number no-nodes (Good g) refl (λ e. omega arith)
 
-  pub count-in-16-bits-breaks : Breaks nodes-past-16-bits (Good s)
+  pub count-in-16-bits-breaks : Breaks nodes-past-16-bits (Good g)
   unfolding laid-down
-  count-in-16-bits-breaks = other-number nodes-past-16-bits (Good s) refl (λ e. omega arith)
+  count-in-16-bits-breaks = other-number nodes-past-16-bits (Good g) refl (λ e. omega arith)
 
 pub made-up-limit-place-breaks : (i : ℕ) → ¬ (i ≡ 3) → Breaks no-nodes (Refused (OutsideLimits i))
 unfolding laid-down
@@ -88,7 +88,7 @@ T-other-version = record { version = 9; words = T-words; right = Refused BadVers
 
 pub any-version-breaks : (r : Checked) → ¬ (r ≡ Refused BadVersion) → Breaks T-other-version r
 unfolding laid-down
-any-version-breaks r = other T-other-version r refl tt
+any-version-breaks r = other T-other-version r refl tt tt
 
 -- No words, told as version 9
 abbrev pub none-of-other-version : Input
@@ -104,7 +104,7 @@ four-words = bad ((inputs-limit + 1) ∷ 0 ∷ 0 ∷ 0 ∷ []) (BadLength 4)
 
 pub header-not-checked-first-breaks : (r : Checked) → ¬ (r ≡ Refused (BadLength 4)) → Breaks four-words r
 unfolding laid-down inputs-limit
-header-not-checked-first-breaks r = other four-words r refl tt
+header-not-checked-first-breaks r = other four-words r refl tt tt
 
 -- I is outside its limit, and the node is not there.
 abbrev pub limit-and-length : Input

@@ -9,6 +9,7 @@ use Rattle.clauses.specs.Answers.{Answer}
 use Rattle.clauses.proofs.Answers.{number-of}
 use Rattle.meaning.specs.Problem as problems
 use Rattle.problem.specs.declared.Outline.{Outline}
+use Rattle.problem.specs.declared.ProblemRecord.{ProblemRecord}
 use Rattle.problem.specs.declared.Refusal.{Refusal}
 use Rattle.problem.specs.declared.Refusal.the-variants.{BadVersion, BadLength, OutsideLimits, BadReset, BadLiteral, BadNode}
 use Rattle.problem.specs.declared.Checked.{Checked}
@@ -17,7 +18,7 @@ use Rattle.problem.specs.declared.Left.{Left}
 use Rattle.problem.specs.declared.Left.the-variants.{Constant, Child}
 use Rattle.problem.specs.declared.Node.{Node}
 use Rattle.problem.specs.declared.Node.the-variants.{Atom, Both, Either, Next, Until, Release}
-use Rattle.problem.specs.Promise.{refusal-answer, answer-of, outline-of, OutlinedBy, CheckedAs, left-of, node-read}
+use Rattle.problem.specs.Promise.{refusal-answer, answer-of, outline-of, CheckedAs, left-of, node-read}
 
 -- ════════ The refusals ════════
 
@@ -67,16 +68,21 @@ outline-back o = record {
 pub outline-unique : (s s′ : Outline) → outline-of s ≡ outline-of s′ → s ≡ s′
 outline-unique s s′ e = ap outline-back e
 
--- Two outcomes with one answer: both the outline of the words, or one refusal.
-same-outcome : (version : ℕ) (ws : List ℕ) (r r′ : Checked) → OutlinedBy version ws r → OutlinedBy version ws r′ → answer-of r ≡ answer-of r′ → r ≡ r′
-same-outcome version ws (Good s) (Good s′) o o′ e = ap Good (outline-unique s s′ (o .outline-is ∙ sym (o′ .outline-is)))
-same-outcome version ws (Good s) (Refused f) o o′ e = absurd (refusal-not-yes f (number-of (sym e)))
-same-outcome version ws (Refused f) (Good s) o o′ e = absurd (refusal-not-yes f (number-of e))
-same-outcome version ws (Refused f) (Refused f′) o o′ e = ap Refused (refusal-unique f f′ e)
+same-record : (g g′ : ProblemRecord) → g .outline ≡ g′ .outline → g .counts ≡ g′ .counts → g ≡ g′
+same-record g g′ o c = ap (λ s. record { outline = s; counts = g .counts }) o ∙ ap (λ n. record { outline = g′ .outline; counts = n }) c
+
+-- Two outcomes with one answer: both the record of the words, or one refusal.
+same-outcome : (version : ℕ) (ws : List ℕ) (r r′ : Checked) → CheckedAs version ws r → CheckedAs version ws r′ → answer-of r ≡ answer-of r′ → r ≡ r′
+same-outcome version ws (Good g) (Good g′) a a′ e =
+    let outlines : g .outline ≡ g′ .outline = outline-unique (g .outline) (g′ .outline) (a .outlined .outline-is ∙ sym (a′ .outlined .outline-is)) in
+    ap Good (same-record g g′ outlines (a .counted ∙ sym (a′ .counted)))
+same-outcome version ws (Good g) (Refused f) a a′ e = absurd (refusal-not-yes f (number-of (sym e)))
+same-outcome version ws (Refused f) (Good g) a a′ e = absurd (refusal-not-yes f (number-of e))
+same-outcome version ws (Refused f) (Refused f′) a a′ e = ap Refused (refusal-unique f f′ e)
 
 pub checked-unique : (version : ℕ) (ws : List ℕ) (r r′ : Checked) → CheckedAs version ws r → CheckedAs version ws r′ → r ≡ r′
 checked-unique version ws r r′ a a′ =
-    same-outcome version ws r r′ (a .outlined) (a′ .outlined) (a .answered ∙ sym (a′ .answered))
+    same-outcome version ws r r′ a a′ (a .answered ∙ sym (a′ .answered))
 
 -- ════════ The nodes ════════
 

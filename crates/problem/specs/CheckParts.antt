@@ -1,6 +1,6 @@
 -- What the parts of the check answer, one after another. Assumes nothing.
 use mathlib.Core.Path.{_≡_}
-use mathlib.Core.List.{List}
+use mathlib.Core.List.{List, _++_}
 use Prim.Native.Nat.{ℕ, _+_}
 use Rattle.clauses.specs.Answers.{Answer, Check, first-failing-part}
 use Rattle.meaning.specs.Problem as problems
@@ -21,6 +21,11 @@ answer-then (Refused f) after = refusal-answer f
 -- The answer to some parts of the check.
 pub record Answers (ps : List (List Check)) (r : PartAnswer) : Type 0 where
   pub answered : (after : Answer) → answer-then r after ≡ first-failing-part ps after
+
+-- Two parts one after the other: the answer to both, and they pass only if both do.
+pub record Joined (first second r : PartAnswer) : Type 0 where
+  pub answers : (xs ys : List (List Check)) → Answers xs first → Answers ys second → Answers (xs ++ ys) r
+  pub both-pass : r ≡ Passed → (first ≡ Passed) × (second ≡ Passed)
 
 -- The sizes are within the limits, and the width is theirs.
 pub record Fitting (s : Outline) : Type 0 where

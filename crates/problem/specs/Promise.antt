@@ -8,7 +8,9 @@ use Rattle.meaning.specs.Problem as problems
 use Rattle.meaning.specs.Problem.{Problem, W, outline, problem-by, problem}
 use Rattle.meaning.specs.Proper.{Proper}
 use Rattle.meaning.specs.Calls.{check-problem}
+use Rattle.counts.specs.Promise.{counts-of}
 use Rattle.problem.specs.declared.Outline.{Outline}
+use Rattle.problem.specs.declared.ProblemRecord.{ProblemRecord}
 use Rattle.problem.specs.declared.Refusal.{Refusal}
 use Rattle.problem.specs.declared.Refusal.the-variants.{BadVersion, BadLength, OutsideLimits, BadReset, BadLiteral, BadNode}
 use Rattle.problem.specs.declared.Checked.{Checked}
@@ -28,7 +30,7 @@ refusal-answer (BadLiteral i) = bad-literal i
 refusal-answer (BadNode i) = bad-node i
 
 abbrev pub answer-of : Checked → Answer
-answer-of (Good s) = granted 0
+answer-of (Good g) = granted 0
 answer-of (Refused f) = refusal-answer f
 
 -- ════════ The outline ════════
@@ -56,6 +58,11 @@ pub record ProperIn (s : Outline) (ws : List ℕ) : Type 0 where
   pub proper : Proper (problem-in s ws)
   pub width-is : W (problem-in s ws) ≡ s .width
 
+-- .. and the numbers of the record are those of its CNF.
+pub record CountedIn (g : ProblemRecord) (ws : List ℕ) : Type 0 where
+  pub proper-in : ProperIn (g .outline) ws
+  pub counts-are : g .counts ≡ counts-of (problem-in (g .outline) ws)
+
 -- ════════ The check ════════
 
 -- The outline is that of the version and the words, and the problem that it shows is theirs.
@@ -64,13 +71,19 @@ pub record Outlined (version : ℕ) (ws : List ℕ) (s : Outline) : Type 0 where
   pub problem-is : problem-in s ws ≡ problem version ws
 
 abbrev pub OutlinedBy : ℕ → List ℕ → Checked → Type 0
-OutlinedBy version ws (Good s) = Outlined version ws s
+OutlinedBy version ws (Good g) = Outlined version ws (g .outline)
 OutlinedBy version ws (Refused f) = Unit
 
--- The check: its answer, and the outline where the answer is yes.
+-- The record's numbers of variables, clauses and words are those of the CNF.
+abbrev pub CountedBy : ℕ → List ℕ → Checked → Type 0
+CountedBy version ws (Good g) = g .counts ≡ counts-of (problem version ws)
+CountedBy version ws (Refused f) = Unit
+
+-- The check: its answer, and where it is yes the outline and the numbers of the CNF.
 pub record CheckedAs (version : ℕ) (ws : List ℕ) (r : Checked) : Type 0 where
   pub answered : answer-of r ≡ check-problem version ws
   pub outlined : OutlinedBy version ws r
+  pub counted : CountedBy version ws r
 
 -- ════════ The nodes ════════
 

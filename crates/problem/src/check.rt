@@ -1,7 +1,11 @@
 // The check of a problem, in document 01's fixed order: parts one after another, each of which passes or refuses.
 use crate::Checked;
 use crate::Outline;
+use crate::ProblemRecord;
 use crate::Refusal;
+use crate::count::Seen;
+use crate::count::numbers;
+use crate::count::with_one;
 use crate::header::BOUND;
 use crate::header::GATES;
 use crate::header::INPUTS;
@@ -19,13 +23,12 @@ use crate::read::latch_place;
 use crate::read::node_place;
 use crate::read::word_at;
 ghost use mathlib.Core.Path.{_≡_};
-ghost use mathlib.Core.List.{List, [], _∷_, _++_};
+ghost use mathlib.Core.List.{[], _∷_};
 ghost use Prim.Native.Nat.{_<_};
-ghost use Rattle.clauses.specs.Answers.{Check};
-ghost use Rattle.meaning.specs.Check.{header-checks, limit-check, limit-checks, length-checks, latch-checks, gate-checks, node-checks, first-right, second-right, each-below};
-ghost use Rattle.meaning.specs.Calls.{outline-parts};
+ghost use Rattle.meaning.specs.Check.{header-checks, limit-check, limit-checks, length-checks, latch-checks, gate-checks, node-checks, first-right, second-right};
 ghost use Rattle.problem.specs.Promise.{CheckedAs, outline-of};
-ghost use Rattle.problem.specs.CheckParts.{Answers, Fitting, count-of, checks-of};
+ghost use Rattle.problem.specs.CheckParts.{Answers, Joined, Fitting, count-of, checks-of};
+ghost use Rattle.problem.specs.Walks.{AllWalked, PartsWalked};
 
 // "reset over 2" is refused.
 const LARGEST_RESET: u32 = 2;
@@ -48,9 +51,15 @@ pub(crate) enum Kind {
     Node,
 }
 
+// What a walk answers, and what was counted on the way.
+pub(crate) struct Walked {
+    answer: PartAnswer,
+    seen: Seen,
+}
+
 // Two parts one after the other: the first that refuses gives the answer.
 fn then(first: PartAnswer, second: PartAnswer) -> PartAnswer
-    ensures { λ r. ⌜ ((xs ys : List (List Check)) → Answers xs first → Answers ys second → Answers (xs ++ ys) r) ⌝ }
+    ensures { λ r. ⌜ Joined first second r ⌝ }
 {
     match first {
         PartAnswer::Passed => second,
@@ -195,34 +204,64 @@ fn one(words: &[u32], s: Outline, kind: Kind, i: u32) -> PartAnswer
     }
 }
 
-// All of a kind, in their order.
-fn all(words: &[u32], s: Outline, kind: Kind) -> PartAnswer
+// All of a kind, in their order; one walk checks and counts.
+fn all(words: &[u32], s: Outline, kind: Kind) -> Walked
     requires { ⌜ Fitting s ⌝ }
-    ensures { λ r. ⌜ Answers (each-below (count-of kind (outline-of s)) (checks-of kind (outline-of s) (now (words .entry))) ∷ []) r ⌝ }
+    ensures { λ r. ⌜ AllWalked kind s (now (words .entry)) r ⌝ }
 {
     let n = count(s, kind);
+    let mut seen = Seen {
+        fixed: 0,
+        equals: 0,
+        ors: 0,
+        untils: 0,
+    };
     let mut i: u32 = 0;
     while i < n {
         let r = one(words, s, kind, i);
         let PartAnswer::Passed = r else {
-            return r;
+            return Walked { answer: r, seen };
         };
+        seen = with_one(words, s, kind, i, seen);
         i += 1;
     }
-    PartAnswer::Passed
+    Walked {
+        answer: PartAnswer::Passed,
+        seen,
+    }
 }
 
-// The parts that the outline tells of.
-fn parts(words: &[u32], s: Outline) -> PartAnswer
+// The parts that the outline tells of; resets are counted with the latches, forms with the nodes.
+fn parts(words: &[u32], s: Outline) -> Walked
     requires { ⌜ Fitting s ⌝ }
-    ensures { λ r. ⌜ Answers (outline-parts (outline-of s) (now (words .entry))) r ⌝ }
+    ensures { λ r. ⌜ PartsWalked s (now (words .entry)) r ⌝ }
 {
-    let to_latches = then(length(words, s), all(words, s, Kind::Latch));
-    let to_gates = then(to_latches, all(words, s, Kind::Gate));
-    then(to_gates, all(words, s, Kind::Node))
+    let Walked {
+        answer: by_latches,
+        seen: latches,
+    } = all(words, s, Kind::Latch);
+    let Walked {
+        answer: by_gates,
+        ..
+    } = all(words, s, Kind::Gate);
+    let Walked {
+        answer: by_nodes,
+        seen: nodes,
+    } = all(words, s, Kind::Node);
+    let to_latches = then(length(words, s), by_latches);
+    let to_gates = then(to_latches, by_gates);
+    Walked {
+        answer: then(to_gates, by_nodes),
+        seen: Seen {
+            fixed: latches.fixed,
+            equals: nodes.equals,
+            ors: nodes.ors,
+            untils: nodes.untils,
+        },
+    }
 }
 
-// The whole check: 15, then 1 to 5, or the outline of a good problem.
+// The whole check: 15, then 1 to 5, or the record of a good problem.
 pub fn check(version: u32, words: &[u32]) -> Checked
     ensures { λ r. ⌜ CheckedAs version (now (words .entry)) r ⌝ }
 {
@@ -231,8 +270,12 @@ pub fn check(version: u32, words: &[u32]) -> Checked
         return Checked::Refused(f);
     }
     let s = outline(version, words);
-    match parts(words, s) {
-        PartAnswer::Passed => Checked::Good(s),
+    let Walked { answer, seen } = parts(words, s);
+    match answer {
+        PartAnswer::Passed => Checked::Good(ProblemRecord {
+            outline: s,
+            counts: numbers(s, seen),
+        }),
         PartAnswer::Refused(f) => Checked::Refused(f),
     }
 }

@@ -1,9 +1,12 @@
-// Checks a problem, and reads its parts.
+// Checks a problem, counts what its CNF has, and reads its parts.
 pub mod answer;
 pub mod check;
+mod count;
 pub mod header;
 pub mod limits;
 pub mod read;
+
+use counts::Counts;
 
 // The sizes of a problem, its W, and where each of its parts begins in its words.
 pub struct Outline {
@@ -28,9 +31,15 @@ pub enum Refusal {
     BadNode(usize),
 }
 
-// The outcome of the check: the outline of a good problem, or the refusal.
+// What the check answers of a good problem: its outline, and the numbers of its CNF.
+pub struct ProblemRecord {
+    pub outline: Outline,
+    pub counts: Counts,
+}
+
+// The outcome of the check: the record of a good problem, or the refusal.
 pub enum Checked {
-    Good(Outline),
+    Good(ProblemRecord),
     Refused(Refusal),
 }
 

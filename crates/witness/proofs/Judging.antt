@@ -18,7 +18,7 @@ use Rattle.meaning.specs.Witnesses.{witness-length, byte, byte-checks, reset-ch
 use Rattle.meaning.specs.Calls.{judge-bytes, judge-witness}
 use Rattle.meaning.proofs.Check.{first-failing-refused, checked-if-well-formed}
 use Rattle.meaning.proofs.Calls.{judge-witness-is}
-use Rattle.problem.specs.declared.Outline.{Outline}
+use Rattle.problem.specs.declared.ProblemRecord.{ProblemRecord}
 use Rattle.problem.specs.declared.Refusal.{Refusal}
 use Rattle.problem.specs.declared.Checked.the-variants.{Good, Refused}
 use Rattle.problem.specs.Promise.{problem-in, CheckedAs, refusal-answer}
@@ -115,7 +115,7 @@ judged p bs a =
 
 module _ {version : ℕ} {ws : List ℕ} where
   -- The check of a good problem leaves the answer to the witness.
-  pub good-judged : {s : Outline} → CheckedAs version ws (Good s) → (bs : List ℕ) → judge-bytes (problem-in s ws) bs ≡ judge-witness version ws bs
+  pub good-judged : {g : ProblemRecord} → CheckedAs version ws (Good g) → (bs : List ℕ) → judge-bytes (problem-in (g .outline) ws) bs ≡ judge-witness version ws bs
   good-judged c bs =
       rw (c .outlined .problem-is)
       (sym (judge-witness-is version ws bs ∙ checked-if-well-formed version ws (judge-bytes (problem version ws) bs) (well-formed-if-good c)))

@@ -70,7 +70,10 @@ pub fn judge(version: u32, words: &[u32], witness: &[u8]) -> WitnessAnswer
 {
     let checked = check(version, words);
     match checked {
-        Checked::Good(s) => judge_good(words, s, witness),
+        Checked::Good(g) => {
+            let s = g.outline;
+            judge_good(words, s, witness)
+        }
         Checked::Refused(f) => WitnessAnswer::Problem(f),
     }
 }

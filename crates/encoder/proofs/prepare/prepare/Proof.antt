@@ -2,7 +2,7 @@
 use borrow.Author.Needs.{needs}
 use Rattle.problem.specs.declared.Checked.the-variants.{Good}
 use Rattle.problem.specs.Promise.{CheckedAs}
-use Rattle.problem.proofs.Formed.{proper-if-good}
+use Rattle.problem.proofs.Formed.{counted-if-good}
 use Rattle.encoder.proofs.Preparing.{prepared-if-good, prepared-if-refused}
 use Rattle.encoder.proofs.prepare.prepare.Statement.{statement}
 use Rattle.encoder.proofs.prepare.prepare.Tie as tie
@@ -24,7 +24,7 @@ enum-known-checked : tie.Need-enum-known-checked
 enum-known-checked c = search needs
 
 prepare-good-requires : tie.Need-prepare-good-requires
-prepare-good-requires c κs = proper-if-good (good (c .before .before))
+prepare-good-requires c κs = counted-if-good (good (c .before .before))
 
 enum-known-checked-2 : tie.Need-enum-known-checked-2
 enum-known-checked-2 c = search needs

@@ -14,39 +14,39 @@ use Rattle.clauses.proofs.ReadBack.{steps-fewer}
 use Rattle.refutation.specs.Promise.{counted-answer}
 use Rattle.meaning.specs.Problem.{Problem}
 use Rattle.meaning.specs.Proper.{Proper}
+use Rattle.counts.specs.declared.Counts.{Counts}
+use Rattle.counts.specs.Promise.{counts-of}
 use Rattle.problem.specs.Promise.{problem-in}
-use Rattle.encoder.specs.declared.Counts.{Counts}
-use Rattle.encoder.specs.Promise.{counts-of}
 use Rattle.encoder.proofs.RoomAnswers.{room-suffices}
-use Rattle.encoder.proofs.Preparing.{words-counted, few-variables, fewer-clauses, room-refused, words-refused, numbers-refused, places-refused, cnf-prepared}
+use Rattle.encoder.proofs.Preparing.{few-variables, fewer-clauses, room-refused, words-refused, numbers-refused, places-refused, cnf-prepared}
 use Rattle.encoder.proofs.prepare.prepare_good.Statement.{statement}
 use Rattle.encoder.proofs.prepare.prepare_good.Tie as tie
 
 -- ════════ The points, and what is known there ════════
 
-abbrev start : tie.After-count-good → tie.Start
-start c = c .before .before
+abbrev start : tie.After-n → tie.Start
+start c = c .before .before .before
 
-abbrev p : tie.After-count-good → Problem
-p c = problem-in (start c .args .s) (start c .args .words .now)
+abbrev p : tie.After-n → Problem
+p c = problem-in (start c .args .g .outline) (start c .args .words .now)
 
-abbrev n : tie.After-count-good → Counts
-n c = c .count-good .result
+abbrev n : tie.After-n → Counts
+n c = start c .args .g .counts
 
-proper : (c : tie.After-count-good) → Proper (p c)
-proper c = start c .pre .proper
+proper : (c : tie.After-n) → Proper (p c)
+proper c = start c .pre .proper-in .proper
 
-counted : (c : tie.After-count-good) → n c ≡ counts-of (p c)
-counted c = c .count-good .ensures
+counted : (c : tie.After-n) → n c ≡ counts-of (p c)
+counted c = start c .pre .counts-are
 
 -- Past the room's test, and where the steps are counted too.
-abbrev counting : tie.Else1 → tie.After-count-good
+abbrev counting : tie.Else1 → tie.After-n
 counting t = t .before .before
 
 abbrev tested : tie.After-known-told → tie.Else1
 tested k = k .before .before .before .before .before
 
-abbrev known : tie.After-known-told → tie.After-count-good
+abbrev known : tie.After-known-told → tie.After-n
 known k = counting (tested k)
 
 room-there : (k : tie.After-known-told) → n (known k) .words ≤ length (start (known k) .args .room .now)
@@ -72,9 +72,6 @@ both-fit k =
     omega (arith, room-there k, start c .good, steps-right k .1, fewer-clauses (proper c) (counted c), steps-fewer (start c .args .refutation .now))
 
 -- ════════ The needs ════════
-
-count-good-requires : tie.Need-count-good-requires
-count-good-requires c κs = search needs
 
 returns : tie.Need-returns
 returns c = let k = c .before .before in room-refused (proper k) (counted k) _ _ _ _ (c .if1 .taken)
@@ -121,7 +118,7 @@ returns-4 c =
 all-items-requires : tie.Need-all-items-requires
 all-items-requires c κs =
     let k = told (first-test (c .before)) in
-    (start (known k) .pre, room-suffices (p (known k)) (words-counted (proper (known k)) (counted (known k))) (room-there k))
+    (start (known k) .pre .proper-in, room-suffices (p (known k)) (ap (λ (m : Counts). m .words) (counted (known k))) (room-there k))
 
 same-length : tie.Need-same-length
 same-length c = search needs
@@ -137,7 +134,6 @@ pub prepare-good-spec : {M : Type 1} → statement M
 prepare-good-spec =
     tie.close
     (tie.spec
-    count-good-requires
     returns
     cast-count-steps
     count-steps-requires

@@ -2,19 +2,16 @@
 use mathlib.Core.Path.{_≡_, refl, sym, _∙_, ap}
 use mathlib.Core.Logic.{inl, inr}
 use mathlib.Core.List.{List, [], _∷_}
-use Prim.Native.Nat.{ℕ, _≤_}
+use Prim.Native.Nat.{_≤_}
 use native.Mathlib.Omega.{arith}
 use borrow.Author.Needs.{needs}
-use borrow.Author.Tests.{ne-eqb}
 use denote.Enum.Declared.{tagOf}
 use lib.IntN.{ℤ}
 use lib.ListN.{length}
 use lib.Seq.{length-take-le}
 use types.Run.{OneOf}
 use Rattle.meaning.specs.JobFile.{refusal-line}
-use Rattle.problem.specs.Promise.{refusal-answer}
-use Rattle.problem.proofs.Unique.{refusal-not-yes}
-use Rattle.encoder.specs.declared.Counts.{Counts}
+use Rattle.counts.specs.declared.Counts.{Counts}
 use Rattle.encoder.specs.declared.Encoded.{Encoded}
 use Rattle.encoder.specs.declared.Encoded.the-variants.{Written, Problem, RoomTooSmall}
 use Rattle.encoder.specs.Promise.{answer-of}
@@ -25,17 +22,17 @@ use Rattle.job_file.proofs.print.print_encoded.Statement.{statement}
 use Rattle.job_file.proofs.print.print_encoded.Tie as tie
 
 -- Of every outcome but the first the refusal's line is printed.
-refused : (r : Encoded) (c : Counts) (room : List ℤ) → OneOf (1 ∷ 2 ∷ []) (tagOf the-type r) → refusal-line (answer-of r) ≡ encoded-text r c room
-refused (Written n) c room t = absurd (go t)
+refused : (r : Encoded) (room : List ℤ) → OneOf (1 ∷ 2 ∷ []) (tagOf the-type r) → refusal-line (answer-of r) ≡ encoded-text r room
+refused (Written n) room t = absurd (go t)
   where
     go : OneOf (1 ∷ 2 ∷ []) 0 → ⊥
     go (inl e) = omega arith
     go (inr e) = omega arith
-refused (Problem f) c room t = rw (ne-eqb (refusal-answer f .number) 0 (refusal-not-yes f))
-refused (RoomTooSmall n) c room t = refl
+refused (Problem f) room t = refl
+refused (RoomTooSmall n) room t = refl
 
 -- The words written lie in the room.
-within-room : (room : List ℤ) {r : Encoded} {n : ℕ} → r ≡ Written n → (answer-of r .number ≡ 0 → answer-of r .place ≤ length room) → n ≤ length room
+within-room : (room : List ℤ) {r : Encoded} {n : Counts} → r ≡ Written n → (answer-of r .number ≡ 0 → answer-of r .place ≤ length room) → n .words ≤ length room
 within-room room e h = (rw e at h) refl
 
 -- The points: the CNF was written, its text is put; or it was not, and the line is put.
@@ -55,7 +52,7 @@ slice-aggregate-cnf-text : tie.Need-slice-aggregate-cnf-text
 slice-aggregate-cnf-text c =
     let told = c .before .before in
     let room = start told .args .room .now in
-    sym (length-take-le (told .r .given .0 .0) room (within-room room (told .r .given .1) (start told .pre)))
+    sym (length-take-le (told .r .given .0 .0 .words) room (within-room room (told .r .given .1) (start told .pre)))
 
 cnf-text-requires : tie.Need-cnf-text-requires
 cnf-text-requires c κs = search needs
@@ -77,7 +74,7 @@ returns c =
     let put = c .before .before in
     let told = written put in
     let args = start told .args in
-    prints-as (ap (λ (r : Encoded). encoded-text r (args .c) (args .room .now)) (sym (told .r .given .1))) (put .cnf-text .ensures)
+    prints-as (ap (λ (r : Encoded). encoded-text r (args .room .now)) (sym (told .r .given .1))) (put .cnf-text .ensures)
 
 same-length-2 : tie.Need-same-length-2
 same-length-2 c = search needs
@@ -88,7 +85,7 @@ returns-2 c =
     let placed = refusal put in
     let told = placed .before .before in
     let args = told .before .before .args in
-    prints-as (line-by (answer-of (args .r)) (placed .before .number .ensures) (placed .place .ensures) ∙ refused (args .r) (args .c) (args .room .now) (told .match .keys2))
+    prints-as (line-by (answer-of (args .r)) (placed .before .number .ensures) (placed .place .ensures) ∙ refused (args .r) (args .room .now) (told .match .keys2))
     (put .refusal-text .ensures)
 
 pub print-encoded-spec : {M : Type 1} → statement M

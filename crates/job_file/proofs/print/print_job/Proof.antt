@@ -1,5 +1,5 @@
--- `job_file::print::print_job` meets its contract: the job's refusal, that of its words, or what was encoded. Assumes nothing.
-use mathlib.Core.Path.{_≡_, sym, _∙_}
+-- `job_file::print::print_job` meets its contract: the job's refusal, or what was encoded. Assumes nothing.
+use mathlib.Core.Path.{sym, _∙_}
 use mathlib.Core.List.{List}
 use Prim.Native.Nat.{ℕ}
 use borrow.Author.Needs.{needs}
@@ -7,20 +7,15 @@ use lib.IntN.{pos}
 use lib.ListN.{take, replicate}
 use lib.Seq.{length-take-le}
 use Rattle.meaning.specs.Limits.{program-room}
-use Rattle.problem.specs.Promise.{refusal-answer}
-use Rattle.encoder.specs.declared.ProblemCounted.{ProblemCounted}
-use Rattle.encoder.specs.declared.ProblemCounted.the-variants as counts
-use Rattle.encoder.specs.Promise.{EncodedAs, CountedAs}
-use Rattle.job_file.specs.declared.job.JobAnswer.the-variants.{Good}
+use Rattle.encoder.specs.Promise.{EncodedAs}
 use Rattle.job_file.specs.Promise.{job-answered}
 use Rattle.job_file.proofs.Prints.{prints-as, line-by}
 use Rattle.job_file.proofs.WriteCnf.{within-room}
-use Rattle.job_file.proofs.PrintJob.{count-within, text-if-bad-job, text-if-words-refused, text-if-encoded}
+use Rattle.job_file.proofs.PrintJob.{count-within, text-if-bad-job, text-if-encoded}
 use Rattle.job_file.proofs.print.print_job.Statement.{statement}
 use Rattle.job_file.proofs.print.print_job.Tie as tie
 
--- The points: the job is read; it is bad, and its line is put; it is good, and its words are counted, written and printed; or they are
--- refused, and the line of that is put.
+-- The points: the job is read; it is bad, and its line is put; or it is good, and its words are written and printed.
 abbrev start : tie.After-read-job → tie.Start
 start c = c .before .before .before
 
@@ -30,26 +25,14 @@ bad c = c .before .before .before .before
 abbrev bad-job : tie.After-enum-told → tie.After-read-job
 bad-job c = c .before .before
 
-abbrev good : tie.After-counts → tie.After-enum-told2
-good c = c .before .before .before
+abbrev good : tie.After-write-cnf → tie.After-enum-told2
+good c = c .before .before .before .before
 
-abbrev good-job : tie.After-counts → tie.After-read-job
+abbrev good-job : tie.After-write-cnf → tie.After-read-job
 good-job c = good c .before .before
-
-abbrev counted : tie.After-c → tie.After-counts
-counted c = c .before .before
-
-abbrev to-write : tie.After-write-cnf → tie.After-c
-to-write c = c .before .before .before
 
 abbrev to-print : tie.After-print-encoded → tie.After-write-cnf
 to-print c = c .before .before .before .before
-
-abbrev refused : tie.After-refusal-text2 → tie.After-f
-refused c = c .before .before .before .before .before
-
-abbrev not-counted : tie.After-f → tie.After-counts
-not-counted c = c .before .before
 
 -- The bytes of the job, and what was read of them.
 abbrev bytes : tie.After-read-job → List ℕ
@@ -100,30 +83,12 @@ slice-aggregate-words c =
     let job = c .before .before .before .before .read-job in
     sym (length-take-le (job .result .count) (job .result .words) (count-within _ _ (job .ensures)))
 
-counts-requires : tie.Need-counts-requires
-counts-requires c κs = search needs
-
--- The words as they were counted and encoded.
-is-good : (c : tie.After-counts) → good-job c .read-job .result .answer ≡ Good
-is-good c = good c .enum-told2 .given .1
-
-counted-as : {v : ℕ} {ws : List ℕ} {r s : ProblemCounted} → r ≡ s → CountedAs v ws r → CountedAs v ws s
-counted-as e a = rw e at a
-
-counted-good : (c : tie.After-c) → let job = good-job (counted c) in CountedAs (version job) (words job) (counts.Good (c .c .given .0 .0))
-counted-good c = counted-as (c .c .given .1) (counted c .counts .ensures)
-
-counted-refused : (c : tie.After-f) → let job = good-job (not-counted c) in CountedAs (version job) (words job) (counts.Refused (c .f .given .0 .0))
-counted-refused c = counted-as (c .f .given .1) (not-counted c .counts .ensures)
-
+-- The words as they were encoded.
 encoded : (c : tie.After-write-cnf)
-    → let job = good-job (counted (to-write c)) in
+    → let job = good-job c in
     EncodedAs (version job) (words job) (replicate program-room (pos 0)) (c .write-cnf .result) (c .write-cnf .last .1 .1 .0)
 unfolding program-room
 encoded c = c .write-cnf .ensures
-
-enum-known-c : tie.Need-enum-known-c
-enum-known-c c = search needs
 
 slice-aggregate-write-cnf : tie.Need-slice-aggregate-write-cnf
 slice-aggregate-write-cnf c = search needs
@@ -137,18 +102,6 @@ slice-aggregate-print-encoded c = search needs
 print-encoded-requires : tie.Need-print-encoded-requires
 print-encoded-requires c κs = within-room _ _ (encoded (c .before .before .before))
 
-enum-known-f : tie.Need-enum-known-f
-enum-known-f c = search needs
-
-refusal-number-requires : tie.Need-refusal-number-requires
-refusal-number-requires c κs = search needs
-
-refusal-place-requires : tie.Need-refusal-place-requires
-refusal-place-requires c κs = search needs
-
-refusal-text-requires-2 : tie.Need-refusal-text-requires-2
-refusal-text-requires-2 c κs = search needs
-
 same-length-2 : tie.Need-same-length-2
 same-length-2 c = search needs
 
@@ -156,25 +109,9 @@ returns-2 : tie.Need-returns-2
 returns-2 c =
     let put = c .before .before in
     let wrote = to-print put in
-    let told = to-write wrote in
-    let job = good-job (counted told) in
-    prints-as
-    (text-if-encoded (bytes job) (job .read-job .result) (job .read-job .ensures) (is-good (counted told)) (encoded wrote) (counted-good told .numbered))
+    let job = good-job wrote in
+    prints-as (text-if-encoded (bytes job) (job .read-job .result) (job .read-job .ensures) (good wrote .enum-told2 .given .1) (encoded wrote))
     (put .print-encoded .ensures)
-
-same-length-3 : tie.Need-same-length-3
-same-length-3 c = search needs
-
-returns-3 : tie.Need-returns-3
-returns-3 c =
-    let put = c .before .before in
-    let told = refused put in
-    let job = good-job (not-counted told) in
-    let f = told .f .given .0 .0 in
-    prints-as
-    (line-by (refusal-answer f) (put .before .before .before .refusal-number .ensures) (put .before .before .refusal-place .ensures)
-    ∙ text-if-words-refused (bytes job) (job .read-job .result) (job .read-job .ensures) (is-good (not-counted told)) f (counted-refused told .answered))
-    (put .refusal-text2 .ensures)
 
 pub print-job-spec : {M : Type 1} → statement M
 print-job-spec =
@@ -190,17 +127,9 @@ print-job-spec =
     enum-told-2
     array-share-prefix-held
     slice-aggregate-words
-    counts-requires
-    enum-known-c
     slice-aggregate-write-cnf
     write-cnf-requires
     slice-aggregate-print-encoded
     print-encoded-requires
-    enum-known-f
-    refusal-number-requires
-    refusal-place-requires
-    refusal-text-requires-2
     same-length-2
-    returns-2
-    same-length-3
-    returns-3)
+    returns-2)

@@ -1,26 +1,33 @@
--- `all` meets its contract: before each turn the checks of the numbers passed are passed. Assumes nothing.
-use Prim.Native.Nat.{_-_, _<_}
+-- `all` meets its contract: before each turn the numbers passed are checked and counted. Assumes nothing.
+use Prim.Native.Nat.{ℕ, _-_, _<_}
 use native.Mathlib.Omega.{arith}
 use borrow.Author.Needs.{needs}
-use Rattle.problem.specs.Promise.{outline-of}
+use Rattle.problem.specs.Promise.{outline-of, problem-in}
 use Rattle.problem.specs.CheckParts.{count-of, checks-of}
-use Rattle.problem.proofs.Answered.{PassedTo, passed-none, passed-more, passed-all, refused-at, is-passed}
+use Rattle.problem.specs.Walks.{SeenTo}
+use Rattle.problem.proofs.Answered.{PassedTo, passed-none, passed-more, passed-all, refused-at, is-passed, refused-not-passed}
+use Rattle.problem.proofs.CountingOneMore.{none-seen, seen-all}
 use Rattle.problem.proofs.check.all.Statement.{statement}
 use Rattle.problem.proofs.check.all.Tie as tie
 
 abbrev Inv-loop : tie.InvT-loop
-Inv-loop words s kind n i₀ i = PassedTo (checks-of kind (outline-of s) words) (count-of kind (outline-of s)) i
+Inv-loop words s kind n seen₀ i₀ seen i =
+    PassedTo (checks-of kind (outline-of s) words) (count-of kind (outline-of s)) i × SeenTo kind (problem-in s words) i seen
 
 abbrev μ-loop : tie.MeasureT-loop
-μ-loop words s kind n i₀ i = n - i
+μ-loop words s kind n seen₀ i₀ seen i = n - i
 
 -- ════════ The points, and what is known there ════════
 
 abbrev start : tie.At-loop Inv-loop μ-loop → tie.Start Inv-loop μ-loop
 start c = c .before .before .before
 
+-- How many there are of the kind.
+abbrev all : tie.At-loop Inv-loop μ-loop → ℕ
+all c = count-of (start c .args .kind) (outline-of (start c .args .s))
+
 -- The turn's number is one of the kind's.
-below : (c : tie.In-loop Inv-loop μ-loop) → c .before .loop .i < count-of (start (c .before) .args .kind) (outline-of (start (c .before) .args .s))
+below : (c : tie.In-loop Inv-loop μ-loop) → c .before .loop .i < all (c .before)
 below c = rw (c .before .before .count .ensures) at (c .loop-test .taken)
 
 -- ════════ The needs ════════
@@ -29,7 +36,7 @@ count-requires : tie.Need-count-requires Inv-loop μ-loop
 count-requires c κs = search needs
 
 loop-holds : tie.Need-loop-holds Inv-loop μ-loop
-loop-holds c = passed-none
+loop-holds c = (passed-none, none-seen (c .before .before .args .kind) _)
 
 one-requires : tie.Need-one-requires Inv-loop μ-loop
 one-requires c κs = (start (c .before) .pre, below c)
@@ -43,7 +50,13 @@ enum-told-2 c = c .match .keys2
 returns : tie.Need-returns Inv-loop μ-loop
 returns c =
     let done = c .before .before in
-    refused-at (done .before .before .loop .inv) (below (done .before)) (done .one .result) (c .before .match .keys2) (done .one .ensures)
+    record {
+      answers = refused-at (done .before .before .loop .inv .0) (below (done .before)) (done .one .result) (c .before .match .keys2) (done .one .ensures);
+      counted = λ e. absurd (refused-not-passed (done .one .result) (c .before .match .keys2) e);
+    }
+
+with-one-requires : tie.Need-with-one-requires Inv-loop μ-loop
+with-one-requires c κs = let turn = c .before .before .before in (below turn, turn .before .loop .inv .1)
 
 add-i : tie.Need-add-i Inv-loop μ-loop
 add-i c = search needs
@@ -53,11 +66,20 @@ loop-less c = omega arith
 
 loop-again : tie.Need-loop-again Inv-loop μ-loop
 loop-again c =
-    let done = c .before .before in
-    passed-more (done .before .before .loop .inv) (below (done .before)) (rw (is-passed (done .one .result) (c .before .match .keys1)) at (done .one .ensures))
+    let told = c .before in
+    let done = told .before .before in (
+      passed-more (done .before .before .loop .inv .0) (below (done .before)) (rw (is-passed (done .one .result) (told .before .match .keys1)) at (done .one .ensures)),
+      c .with-one .ensures,
+    )
 
 returns-2 : tie.Need-returns-2 Inv-loop μ-loop
-returns-2 c = passed-all (c .before .loop .inv) (rw (c .before .before .count .ensures) at (c .loop-test .left))
+returns-2 c =
+    let head = c .before in
+    let done = rw (head .before .count .ensures) at (c .loop-test .left) in
+    record {
+      answers = passed-all (head .loop .inv .0) done;
+      counted = λ e. seen-all (start head .args .kind) _ (head .loop .seen) (head .loop .inv .0 .within) done (head .loop .inv .1);
+    }
 
 pub all-spec : {M : Type 1} → statement M
 all-spec =
@@ -71,6 +93,7 @@ all-spec =
     enum-told
     enum-told-2
     returns
+    with-one-requires
     add-i
     loop-less
     loop-again

@@ -1,11 +1,13 @@
 -- `check` meets its contract: each answer is that of the first part that refuses. Assumes nothing.
 use borrow.Author.Needs.{needs}
+use mathlib.Core.Path.{_∙_}
 use mathlib.Core.List.{List}
 use Prim.Native.Nat.{ℕ}
 use Rattle.problem.specs.declared.check.PartAnswer.the-variants.{Passed}
 use Rattle.problem.specs.CheckParts.{Answers}
 use Rattle.problem.proofs.Answered.{is-passed, answers-by}
-use Rattle.problem.proofs.Formed.{opening, in-limits-if-passed, fitting, refused-by-opening, refused-by-parts, good-by-parts}
+use Rattle.problem.proofs.Counted.{counts-with}
+use Rattle.problem.proofs.Formed.{opening, in-limits-if-passed, fitting, refused-by-opening, refused-by-parts, proper-by-parts, good-by-parts}
 use Rattle.problem.proofs.check.check.Statement.{statement}
 use Rattle.problem.proofs.check.check.Tie as tie
 
@@ -19,7 +21,7 @@ version c = c .before .before .before .before .args .version
 
 -- What the header and its limits answered.
 opened : (c : tie.After-then) → Answers (opening (version c) (words c)) (c .then .result)
-opened c = c .then .ensures _ _ (c .before .before .header .ensures) (c .before .limits .ensures)
+opened c = c .then .ensures .answers _ _ (c .before .before .header .ensures) (c .before .limits .ensures)
 
 -- Past the first test they passed.
 passed : (c : tie.After-enum-told) → Answers (opening (version (c .before .before)) (words (c .before .before))) Passed
@@ -56,18 +58,27 @@ parts-requires c κs =
 enum-told-2 : tie.Need-enum-told-2
 enum-told-2 c = search needs
 
-enum-known-f : tie.Need-enum-known-f
-enum-known-f c = search needs
+numbers-requires : tie.Need-numbers-requires
+numbers-requires c κs = search needs
+
+enum-known-answer : tie.Need-enum-known-answer
+enum-known-answer c = search needs
 
 returns-2 : tie.Need-returns-2
 returns-2 c =
-    let known = c .before .before in
-    good-by-parts _ _ (passed (known .before .before)) (known .before .outline .ensures) (answers-by (is-passed (known .parts .result) (c .before .match2 .keys1)) (known .parts .ensures))
+    let walked = c .before .before .before .before in
+    let outlined = walked .before in
+    let told = outlined .before in
+    let passed-parts = is-passed (walked .parts .result .answer) (c .before .before .match2 .keys1) in
+    let by-parts = answers-by passed-parts (walked .parts .ensures .answers) in
+    let proper = proper-by-parts _ _ (passed told) (outlined .outline .ensures) by-parts in
+    good-by-parts _ _ (passed told) (outlined .outline .ensures) by-parts (c .numbers .ensures ∙ counts-with proper (walked .parts .ensures .counted passed-parts))
 
 returns-3 : tie.Need-returns-3
 returns-3 c =
-    let known = c .before .before .before in
-    refused-by-parts _ _ (passed (known .before .before)) (known .before .outline .ensures) (answers-by (c .before .f .given .1) (known .parts .ensures))
+    let walked = c .before .before .before .before in
+    let outlined = walked .before in
+    refused-by-parts _ _ (passed (outlined .before)) (outlined .outline .ensures) (answers-by (c .before .answer .given .1) (walked .parts .ensures .answers))
 
 pub check-spec : {M : Type 1} → statement M
 check-spec =
@@ -82,6 +93,7 @@ check-spec =
     outline-requires
     parts-requires
     enum-told-2
-    enum-known-f
+    numbers-requires
+    enum-known-answer
     returns-2
     returns-3)

@@ -52,7 +52,7 @@ returns c =
     let nodes = to-nodes .before .limit4 .ensures in
     let bound = c .before .limit5 .ensures in
     as-one
-    (c .then4 .ensures _ _ (to-nodes .then3 .ensures _ _ (to-gates .then2 .ensures _ _ (to-latches .then .ensures _ _ inputs latches) gates) nodes) bound)
+    (c .then4 .ensures .answers _ _ (to-nodes .then3 .ensures .answers _ _ (to-gates .then2 .ensures .answers _ _ (to-latches .then .ensures .answers _ _ inputs latches) gates) nodes) bound)
 
 pub limits-spec : {M : Type 1} → statement M
 limits-spec =

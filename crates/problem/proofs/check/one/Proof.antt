@@ -1,27 +1,8 @@
 -- `one` meets its contract: an arm a kind. Assumes nothing.
-use mathlib.Core.Path.{_≡_, refl, sym, _∙_, ap}
-use mathlib.Core.List.{List, [], _∷_}
-use Prim.Native.Nat.{ℕ}
-use lib.ListN.{getD}
 use borrow.Author.Needs.{needs}
-use denote.Enum.Declared.{tagOf}
-use Rattle.problem.specs.declared.check.Kind.{Kind}
-use Rattle.problem.specs.declared.check.Kind.the-variants.{Latch, Gate, Node}
-use Rattle.problem.proofs.check.Kind.{the-type}
+use Rattle.problem.proofs.KindNumbers.{is}
 use Rattle.problem.proofs.check.one.Statement.{statement}
 use Rattle.problem.proofs.check.one.Tie as tie
-
--- The code goes by the number of the variant: one line a kind.
-abbrev kinds : List Kind
-kinds = Latch ∷ Gate ∷ Node ∷ []
-
-numbered : (k : Kind) → getD kinds (tagOf the-type k) Latch ≡ k
-numbered Latch = refl
-numbered Gate = refl
-numbered Node = refl
-
-is : (k : Kind) {n : ℕ} → tagOf the-type k ≡ n → k ≡ getD kinds n Latch
-is k e = sym (numbered k) ∙ ap (λ n. getD kinds n Latch) e
 
 enum-told : tie.Need-enum-told
 enum-told c = search needs

@@ -1,48 +1,81 @@
 -- `parts` meets its contract: one line a part. Assumes nothing.
 use borrow.Author.Needs.{needs}
+use Rattle.problem.specs.Promise.{problem-in}
+use Rattle.problem.proofs.Outlines.{shows}
+use Rattle.problem.proofs.CountingOneMore.{latches-seen, nodes-seen}
 use Rattle.problem.proofs.check.parts.Statement.{statement}
 use Rattle.problem.proofs.check.parts.Tie as tie
 
-length-requires : tie.Need-length-requires
-length-requires c κs = search needs
+-- ════════ The points ════════
+
+abbrev nodes : tie.After-length → tie.After-all3
+nodes c = c .before .before
+
+abbrev gates : tie.After-length → tie.After-all2
+gates c = nodes c .before
+
+abbrev latches : tie.After-length → tie.After-all
+latches c = gates c .before .before
+
+-- ════════ The needs ════════
 
 all-requires : tie.Need-all-requires
 all-requires c κs = search needs
 
-then-requires : tie.Need-then-requires
-then-requires c κs = search needs
-
 all-requires-2 : tie.Need-all-requires-2
 all-requires-2 c κs = search needs
 
-then-requires-2 : tie.Need-then-requires-2
-then-requires-2 c κs = search needs
-
 all-requires-3 : tie.Need-all-requires-3
 all-requires-3 c κs = search needs
+
+length-requires : tie.Need-length-requires
+length-requires c κs = search needs
+
+then-requires : tie.Need-then-requires
+then-requires c κs = search needs
+
+then-requires-2 : tie.Need-then-requires-2
+then-requires-2 c κs = search needs
 
 then-requires-3 : tie.Need-then-requires-3
 then-requires-3 c κs = search needs
 
 returns : tie.Need-returns
 returns c =
-    let to-gates = c .before .before in
-    let to-latches = to-gates .before .before in
-    let length = to-latches .before .before .length .ensures in
-    let latches = to-latches .before .all .ensures in
-    let gates = to-gates .before .all2 .ensures in
-    let nodes = c .before .all3 .ensures in
-    c .then3 .ensures _ _ (to-gates .then2 .ensures _ _ (to-latches .then .ensures _ _ length latches) gates) nodes
+    let to-gates = c .before in
+    let to-latches = to-gates .before in
+    let length = to-latches .before in
+    let start = latches length .before .before in
+    let s = start .args .s in
+    let ws = start .args .words .now in
+    let by-latches = latches length .all .ensures in
+    let by-gates = gates length .all2 .ensures in
+    let by-nodes = nodes length .all3 .ensures in
+    record {
+      answers =
+          c .then3 .ensures .answers _ _
+          (to-gates .then2 .ensures .answers _ _ (to-latches .then .ensures .answers _ _ (length .length .ensures) (by-latches .answers)) (by-gates .answers))
+          (by-nodes .answers);
+      counted = λ e.
+          let all = c .then3 .ensures .both-pass e in
+          let all-but-nodes = to-gates .then2 .ensures .both-pass (all .0) in
+          let passed = to-latches .then .ensures .both-pass (all-but-nodes .0) in
+          let forms = nodes-seen (problem-in s ws) (nodes length .all3 .result .seen) (shows s ws .nodes-are) (by-nodes .counted (all .1)) in
+          record {
+            fixed-are = latches-seen (problem-in s ws) (latches length .all .result .seen) (shows s ws .latches-are) (by-latches .counted (passed .1));
+            forms-are = record { equals-are = forms .equals-are; ors-are = forms .ors-are; untils-are = forms .untils-are };
+          };
+    }
 
 pub parts-spec : {M : Type 1} → statement M
 parts-spec =
     tie.close
     (tie.spec
-    length-requires
     all-requires
-    then-requires
     all-requires-2
-    then-requires-2
     all-requires-3
+    length-requires
+    then-requires
+    then-requires-2
     then-requires-3
     returns)

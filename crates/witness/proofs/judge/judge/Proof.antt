@@ -13,7 +13,10 @@ use Rattle.witness.proofs.judge.judge.Tie as tie
 abbrev start : tie.After-check → tie.Start
 start c = c .before .before .before
 
--- In the first arm the problem is good, with the outline that the match bound; in the second it is refused.
+abbrev outlined : tie.After-s → tie.After-checked
+outlined c = c .before .before
+
+-- In the first arm the problem is good, with the record that the match bound; in the second it is refused.
 good : (c : tie.After-checked)
     → CheckedAs (start (c .before .before) .args .version) (start (c .before .before) .args .words .now) (Good (c .checked .given .0 .0))
 good c = rw (c .checked .given .1) at (c .before .before .check .ensures)
@@ -31,14 +34,14 @@ enum-known-checked : tie.Need-enum-known-checked
 enum-known-checked c = search needs
 
 judge-good-requires : tie.Need-judge-good-requires
-judge-good-requires c κs = proper-if-good (good (c .before))
+judge-good-requires c κs = proper-if-good (good (outlined c))
 
 enum-known-checked-2 : tie.Need-enum-known-checked-2
 enum-known-checked-2 c = search needs
 
 returns : tie.Need-returns
 returns c =
-    let arm = c .before .before in
+    let arm = outlined (c .before) in
     c .judge-good .ensures ∙ good-judged (good arm) (start (arm .before .before) .args .witness .now)
 
 returns-2 : tie.Need-returns-2
