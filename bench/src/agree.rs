@@ -3,7 +3,7 @@
 use crate::plain::problem::MOST;
 use crate::plain::Answer;
 use crate::random::Random;
-use crate::samples::circuits::{Shown, VERSION};
+use crate::samples::circuits::{resized, Shown, VERSION};
 use crate::samples::refuted::Refuted;
 use crate::{plain, proved};
 use std::collections::BTreeSet;
@@ -42,6 +42,29 @@ fn same(numbers: &mut Numbers, proved: Answer, plain: Answer) {
     numbers.insert(proved.number);
 }
 
+fn version(random: &mut Random) -> u32 {
+    if random.one_in(50) {
+        UNKNOWN
+    } else {
+        VERSION
+    }
+}
+
+/// Half of the problems keep all limits and half have other sizes, so that every number that goes into a closed form moves.
+pub fn checks(random: &mut Random, words: &[u32]) -> Numbers {
+    let mut numbers = Numbers::new();
+    for _ in 0..TIMES {
+        let words = if random.one_in(2) { words.to_vec() } else { resized(random, words) };
+        let words = if random.one_in(2) { words } else { damaged(random, &words, problem_word) };
+        let version = version(random);
+        let (proved, proved_counts) = proved::check_problem(version, &words);
+        let (plain, plain_counts) = plain::problem::check(version, &words);
+        same(&mut numbers, proved, plain);
+        assert_eq!(proved_counts, plain_counts, "both give the same numbers of the CNF");
+    }
+    numbers
+}
+
 pub fn witnesses(random: &mut Random, shown: &Shown) -> Numbers {
     let mut numbers = Numbers::new();
     for _ in 0..TIMES {
@@ -51,7 +74,7 @@ pub fn witnesses(random: &mut Random, shown: &Shown) -> Numbers {
             1 => witness = damaged(random, &witness, |random| random.below(3) as u8),
             _ => witness[INPUTS_FROM..].fill_with(|| random.below(2) as u8),
         }
-        let version = if random.one_in(50) { UNKNOWN } else { VERSION };
+        let version = version(random);
         let proved = proved::judge_witness(version, &words, &witness);
         same(&mut numbers, proved, plain::witness::judge(version, &words, &witness));
     }

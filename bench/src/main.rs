@@ -8,28 +8,31 @@ mod random;
 mod samples;
 mod timing;
 
-use plain::{answer, YES};
+use plain::counts::Counts;
+use plain::{answer, Answer, YES};
 use random::Random;
 use samples::circuits::{largest, lassos, prefixes, Shown, VERSION};
 use samples::refuted::{self, Refuted};
+use std::hint::black_box;
 use timing::{medians, Medians};
 
 const SEED: u64 = 1;
 
-/// Several witnesses in each round, so that no branch predictor learns one by heart.
-const WITNESSES: usize = 16;
+/// Several problems in each round, so that no branch predictor learns one by heart.
+const PROBLEMS: usize = 16;
 
 /// The words of the largest CNF.
 const LARGEST: usize = 437_012;
 
-/// Rounds of a call; a long one has fewer.
+/// Rounds of a call; a short one has more, a long one fewer.
 const ROUNDS: usize = 101;
+const SHORT_ROUNDS: usize = 2_001;
 const LONG_ROUNDS: usize = 31;
 
 fn print(call: &str, work: &str, Medians { proved, plain }: Medians) {
-    let [proved, plain] = [proved, plain].map(|time| time.as_secs_f64() * 1e3);
+    let [proved, plain] = [proved, plain].map(|time| time.as_secs_f64() * 1e6);
     let ratio = proved / plain;
-    println!("{call:<20}{work:<40}{proved:>10.3} ms{plain:>10.3} ms{ratio:>8.2}");
+    println!("{call:<20}{work:<40}{proved:>10.1} µs{plain:>10.1} µs{ratio:>8.2}");
 }
 
 /// A number with a comma before each three digits.
@@ -39,8 +42,21 @@ fn grouped(number: usize) -> String {
     groups.join(",")
 }
 
+fn check_problems(shown: &[Shown]) {
+    let all = |check: fn(u32, &[u32]) -> (Answer, Counts)| {
+        // The whole answer is used, or plain Rust would leave out numbers that nobody looks at.
+        let answers = shown.iter().map(|s| black_box(check(VERSION, &s.words)));
+        answers.filter(|&(answer, _)| answer == YES).count()
+    };
+    let proved = || all(proved::check_problem);
+    let plain = || all(plain::problem::check);
+    assert_eq!((proved(), plain()), (shown.len(), shown.len()), "both accept every problem");
+    let work = format!("{} problems, all limits", shown.len());
+    print("check a problem", &work, medians(SHORT_ROUNDS, proved, plain));
+}
+
 fn judge_witnesses(kind: &str, shown: &[Shown]) {
-    let all = |judge: fn(u32, &[u32], &[u8]) -> plain::Answer| {
+    let all = |judge: fn(u32, &[u32], &[u8]) -> Answer| {
         let answers = shown.iter().map(|s| judge(VERSION, &s.words, &s.witness));
         answers.filter(|&answer| answer == YES).count()
     };
@@ -76,18 +92,20 @@ fn judge_refutation(of: &Refuted) {
 }
 
 fn main() {
-    let (prefixes, lassos, largest) = (prefixes(SEED, WITNESSES), lassos(SEED, WITNESSES), largest(SEED));
+    let (prefixes, lassos, largest) = (prefixes(SEED, PROBLEMS), lassos(SEED, PROBLEMS), largest(SEED));
     let refuted: Vec<Refuted> = refuted::all().collect();
 
     let random = &mut Random::new(SEED);
     let mut numbers = agree::cnfs(random, &largest, LARGEST);
     for shown in prefixes.iter().chain(&lassos) {
+        numbers.extend(agree::checks(random, &shown.words));
         numbers.extend(agree::witnesses(random, shown));
     }
     numbers.extend(agree::refutations(random, &refuted[0]));
-    println!("both give the same answers to damaged requests, among them {numbers:?}");
+    println!("both give the same answers to some thousands of requests, among them {numbers:?}");
 
     println!("{:<20}{:<40}{:>13}{:>13}{:>8}", "call", "work", "proved", "plain Rust", "ratio");
+    check_problems(&prefixes);
     judge_witnesses("prefixes", &prefixes);
     judge_witnesses("lassos", &lassos);
     write_cnf(&largest);

@@ -1,9 +1,20 @@
 //! The proved calls, by the same names and parameters as the plain ones.
 
+use crate::plain::counts::Counts;
 use crate::plain::{answer, Answer};
 
 // As bench/calls.rt.in has them: a slice is a pointer and a length.
 extern "C" {
+    fn calls_check_problem(
+        version: u32,
+        words: *const u32,
+        words_len: usize,
+        variables: *mut u64,
+        clauses: *mut u64,
+        size: *mut u64,
+        place: *mut u64,
+    ) -> u32;
+
     fn calls_judge_witness(
         version: u32,
         words: *const u32,
@@ -36,10 +47,20 @@ extern "C" {
     ) -> u32;
 }
 
+pub fn check_problem(version: u32, words: &[u32]) -> (Answer, Counts) {
+    let (mut v, mut c, mut s, mut place) = (0, 0, 0, 0);
+    let w = words;
+    // SAFETY: no call has a `requires`; each pointer and length are those of a slice that outlives the call.
+    let number =
+        unsafe { calls_check_problem(version, w.as_ptr(), w.len(), &mut v, &mut c, &mut s, &mut place) };
+    let [variables, clauses, words] = [v, c, s].map(|number| number as usize);
+    (answer(number, place as usize), Counts { variables, clauses, words })
+}
+
 pub fn judge_witness(version: u32, words: &[u32], witness: &[u8]) -> Answer {
     let mut place = 0;
     let (w, b) = (words, witness);
-    // SAFETY: no call has a `requires`; each pointer and length are those of a slice that outlives the call.
+    // SAFETY: as above.
     let number =
         unsafe { calls_judge_witness(version, w.as_ptr(), w.len(), b.as_ptr(), b.len(), &mut place) };
     answer(number, place as usize)

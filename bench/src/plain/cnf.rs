@@ -7,33 +7,16 @@ const TRUE: i32 = 1;
 const FALSE: i32 = -1;
 
 pub fn write(version: u32, words: &[u32], room: &mut [i32]) -> Answer {
-    let problem = match check(version, words) {
-        Ok(problem) => problem,
+    let (problem, counts) = match checked(version, words) {
+        Ok(checked) => checked,
         Err(refused) => return refused,
     };
-    let needed = words_needed(&problem);
+    let needed = counts.words;
     if room.len() < needed {
         return answer(6, needed);
     }
     Writer { numbers: Numbers::new(&problem), problem, room, at: 0 }.all();
     answer(0, needed)
-}
-
-/// The length of the CNF, known before its first word is written.
-fn words_needed(problem: &Problem) -> usize {
-    let (bound, positions, latches) = (problem.bound, problem.bound + 1, problem.latches.len());
-    let resets = problem.latches.iter().filter(|&&[_, reset]| reset < 2).count();
-    let circuit = 10 * positions * problem.gates.len() + 2 * resets + 6 * bound * latches;
-    let loops = 8 * positions * latches + 3 * positions * bound / 2;
-    let node = |&[op, _, _]: &[u32; 3]| {
-        let forms = match op {
-            ATOM | NEXT => 6 + 6,
-            AND | OR => 10 + 6,
-            _ => 15 + 15,
-        };
-        positions * (forms + 8) + positions + 2
-    };
-    2 + circuit + loops + problem.nodes.iter().map(node).sum::<usize>() + 2
 }
 
 /// The numbers of the variables.

@@ -2,6 +2,7 @@
 //! loop, and a value that a coin decides is worked out without a branch.
 
 pub mod cnf;
+pub mod counts;
 pub mod problem;
 pub mod refutation;
 pub mod witness;

@@ -1,6 +1,7 @@
 //! A problem's words, checked and lent in parts: answers 15 and 1 to 5.
 
-use super::{answer, Answer};
+use super::counts::{counts, Counts, Size, FORMS};
+use super::{answer, Answer, YES};
 
 pub const ATOM: u32 = 0;
 pub const AND: u32 = 1;
@@ -17,7 +18,7 @@ const HEADER: usize = 5;
 const CHILDREN: [usize; 8] = [0, 2, 2, 1, 1, 1, 2, 2];
 
 /// The limits of I, L, A, N, k.
-const LEAST: [u32; HEADER] = [0, 0, 0, 1, 0];
+pub const LEAST: [u32; HEADER] = [0, 0, 0, 1, 0];
 pub const MOST: [u32; HEADER] = [64, 64, 1024, 64, 31];
 
 #[derive(Clone, Copy)]
@@ -38,8 +39,16 @@ impl Problem<'_> {
     }
 }
 
+/// The answer, and the numbers of a good problem's CNF; zeros where the problem is refused.
+pub fn check(version: u32, words: &[u32]) -> (Answer, Counts) {
+    match checked(version, words) {
+        Ok((_, counts)) => (YES, counts),
+        Err(refused) => (refused, Counts::default()),
+    }
+}
+
 /// In the fixed order: version, 5 words, limits, length, then every word in order.
-pub fn check(version: u32, words: &[u32]) -> Result<Problem<'_>, Answer> {
+pub fn checked(version: u32, words: &[u32]) -> Result<(Problem<'_>, Counts), Answer> {
     if version != 1 {
         return Err(answer(15, 0));
     }
@@ -58,14 +67,16 @@ pub fn check(version: u32, words: &[u32]) -> Result<Problem<'_>, Answer> {
     let (latches, gates, nodes) =
         (latch_words.as_chunks().0, gate_words.as_chunks().0, node_words.as_chunks().0);
     let problem = Problem { inputs, latches, gates, nodes, bound };
-    check_latches(&problem)?;
+    let fixed = check_latches(&problem)?;
     check_gates(&problem)?;
-    check_nodes(&problem)?;
-    Ok(problem)
+    let forms = check_nodes(&problem)?;
+    Ok((problem, counts(&problem, fixed, forms)))
 }
 
-fn check_latches(problem: &Problem) -> Result<(), Answer> {
+/// Answers how many resets are fixed.
+fn check_latches(problem: &Problem) -> Result<usize, Answer> {
     let most = 2 * problem.width() as u32 + 1;
+    let mut fixed = 0;
     for (i, &[next, reset]) in problem.latches.iter().enumerate() {
         let at = HEADER + 2 * i;
         if next > most {
@@ -74,8 +85,9 @@ fn check_latches(problem: &Problem) -> Result<(), Answer> {
         if reset > 2 {
             return Err(answer(3, at + 1));
         }
+        fixed += usize::from(reset < 2);
     }
-    Ok(())
+    Ok(fixed)
 }
 
 fn check_gates(problem: &Problem) -> Result<(), Answer> {
@@ -94,10 +106,12 @@ fn check_gates(problem: &Problem) -> Result<(), Answer> {
     Ok(())
 }
 
-fn check_nodes(problem: &Problem) -> Result<(), Answer> {
+/// Answers the size of all nodes' forms at one position.
+fn check_nodes(problem: &Problem) -> Result<Size, Answer> {
     let from = HEADER + 2 * (problem.latches.len() + problem.gates.len());
     // Whatever stands below these is right; a child is below its node's number.
     let literals = 2 * problem.width() as u32 + 2;
+    let mut forms = Size::default();
     for (n, &[op, a, b]) in problem.nodes.iter().enumerate() {
         let at = from + 3 * n;
         let Some(&children) = CHILDREN.get(op as usize) else {
@@ -109,6 +123,7 @@ fn check_nodes(problem: &Problem) -> Result<(), Answer> {
         if b >= if children == 2 { n as u32 } else { 1 } {
             return Err(answer(5, at + 2));
         }
+        forms = forms.plus(FORMS[op as usize]);
     }
-    Ok(())
+    Ok(forms)
 }

@@ -8,7 +8,7 @@ pub fn judge(version: u32, words: &[u32], witness: &[u8]) -> Answer {
 }
 
 fn judged(version: u32, words: &[u32], witness: &[u8]) -> Result<(), Answer> {
-    let problem = check(version, words)?;
+    let (problem, _) = checked(version, words)?;
     check_bytes(&problem, witness)?;
     let rows = run(&problem, witness);
     let start = (witness[0] as usize).checked_sub(1);

@@ -130,3 +130,19 @@ pub fn largest(seed: u64) -> Vec<u32> {
     nodes.extend((1..NODES as u32).map(|n| [random.pick(&[UNTIL, RELEASE]), 0, n - 1]));
     words(&latches, &gates(random), &nodes)
 }
+
+/// A good problem of any sizes: the first latches, gates and nodes of one at all limits, and their literals as remainders by what is left.
+pub fn resized(random: &mut Random, words: &[u32]) -> Vec<u32> {
+    let (problem, _) = checked(VERSION, words).expect("a problem at all limits is good");
+    let sizes: [_; 5] = std::array::from_fn(|at| random.between(LEAST[at] as usize, MOST[at] as usize));
+    let [inputs, latches, gates, nodes, _] = sizes;
+    let first = 1 + inputs + latches;
+    let literals = 2 * (first + gates) as u32;
+    let latches = problem.latches[..latches].iter().map(|&[next, reset]| [next % literals, reset]);
+    let gates = (first as u32..).zip(&problem.gates[..gates]);
+    let gates = gates.map(|(own, sides)| sides.map(|side| side % (2 * own)));
+    let nodes = problem.nodes[..nodes].iter();
+    let nodes = nodes.map(|&[op, a, b]| [op, if op == ATOM { a % literals } else { a }, b]);
+    let sizes = sizes.into_iter().map(|size| size as u32);
+    sizes.chain(latches.flatten()).chain(gates.flatten()).chain(nodes.flatten()).collect()
+}
