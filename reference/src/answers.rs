@@ -2,7 +2,7 @@
 
 use crate::problem::{check, Answer};
 use crate::requests::{read, Fault, Request};
-use crate::{cnf, refutation, witness};
+use crate::{cnf, finder, refutation, witness};
 use std::collections::BTreeMap;
 use std::io::{self, Read, Write};
 
@@ -87,6 +87,12 @@ fn reply(request: &Request) -> Reply {
             let buffers = vec![shown_room(&room), shown_area(&first), shown_area(&second)];
             Reply { answer, buffers }
         }
+        Request::Find { version, problem, room: count } => {
+            let mut room = vec![FILL; *count as usize];
+            let found = check(*version, problem).map(|problem| finder::find(&problem, &mut room));
+            let answer = found.unwrap_or_else(|no| no);
+            Reply { answer, buffers: vec![room.into_iter().map(i64::from).collect()] }
+        }
     }
 }
 
@@ -104,11 +110,17 @@ fn print(reply: &Reply, out: &mut impl Write) -> io::Result<()> {
     Ok(())
 }
 
+/// A call, its answer and, of a witness found, the first byte.
+pub type Sort = (u8, u32, Option<i64>);
+
 /// How often each call gives each answer.
-pub fn tally(requests: &[Request]) -> BTreeMap<(u8, u32), usize> {
+pub fn tally(requests: &[Request]) -> BTreeMap<Sort, usize> {
     let mut times = BTreeMap::new();
     for request in requests {
-        *times.entry((request.call().0, reply(request).answer.number)).or_insert(0) += 1;
+        let (call, reply) = (request.call().0, reply(request));
+        let number = reply.answer.number;
+        let found = if (call, number) == (6, 0) { Some(reply.buffers[0][0]) } else { None };
+        *times.entry((call, number, found)).or_insert(0) += 1;
     }
     times
 }
@@ -122,7 +134,6 @@ pub fn answer_all(input: &mut impl Read, out: &mut impl Write) -> Result<(), Str
             Ok(Some(request)) => print(&reply(&request), out).map_err(failed)?,
             Err(Fault::TooLong) => return writeln!(out, "too long").map_err(failed),
             Err(Fault::CutShort) => return writeln!(out, "cut short").map_err(failed),
-            Err(Fault::UnknownCall(call)) => return Err(format!("no call has the number {call}")),
             Err(Fault::Io(error)) => return Err(error.to_string()),
         }
     }

@@ -1,7 +1,8 @@
-//! A second reading of document 01 in plain Rust, to test the checker against.
+//! A second reading of document 01, and of the finder of document 02, in plain Rust, to test the checker against.
 
 mod answers;
 mod cnf;
+mod finder;
 mod job;
 mod make;
 mod models;
@@ -20,7 +21,7 @@ const USAGE: &str = "usage:
   reference answer < requests > answers
   reference against ANSWERS < requests   the first request that these answers answer otherwise
   reference make SEED KIND COUNT > requests
-      KIND: cnf, problem, limits, witness, cases, refute; broken with the number of a stream for COUNT
+      KIND: cnf, problem, limits, witness, cases, refute, find; broken with the number of a stream for COUNT
   reference streams                 how many broken streams there are
   reference tally SEED KIND COUNT   how often each call gives each answer
   reference selfcheck SEED
@@ -68,8 +69,9 @@ fn make_requests(seed: &str, kind: &str, count: &str) -> Result<(), String> {
 fn tally(seed: &str, kind: &str, count: &str) -> Result<(), String> {
     let made = make::requests(number(seed)?, kind, number(count)?);
     let made = made.ok_or_else(|| format!("no kind {kind}"))?;
-    for ((call, answer), times) in answers::tally(&made) {
-        print(format!("call {call} answer {answer}: {times}\n").as_bytes())?;
+    for ((call, answer, found), times) in answers::tally(&made) {
+        let found = found.map_or(String::new(), |byte| format!(" first byte {byte}"));
+        print(format!("call {call} answer {answer}{found}: {times}\n").as_bytes())?;
     }
     Ok(())
 }

@@ -40,13 +40,17 @@ pub enum Request {
         by_numbers: u32,
         by_clauses: u32,
     },
+    Find {
+        version: u32,
+        problem: Vec<u32>,
+        room: u32,
+    },
 }
 
 /// Why a stream of requests ends before its end.
 pub enum Fault {
     TooLong,
     CutShort,
-    UnknownCall(u8),
     Io(io::Error),
 }
 
@@ -73,6 +77,7 @@ impl Request {
             Request::Witness { version, .. } => (3, version),
             Request::Bare { variables, .. } => (4, variables),
             Request::Refutation { version, .. } => (5, version),
+            Request::Find { version, .. } => (6, version),
         }
     }
 
@@ -83,7 +88,7 @@ impl Request {
         let mut counts = Vec::new();
         match self {
             Request::Check { problem, .. } => put_words(&mut out, problem.iter().copied()),
-            Request::Cnf { problem, room, .. } => {
+            Request::Cnf { problem, room, .. } | Request::Find { problem, room, .. } => {
                 put_words(&mut out, problem.iter().copied());
                 counts.push(*room);
             }
@@ -144,8 +149,9 @@ pub fn read(input: &mut impl Read) -> Result<Option<Request>, Fault> {
     if input.read(&mut call)? == 0 {
         return Ok(None);
     }
-    if !(1..=5).contains(&call[0]) {
-        return Err(Fault::UnknownCall(call[0]));
+    // A call that there is not is told like a request that the input ends in.
+    if !(1..=6).contains(&call[0]) {
+        return Err(Fault::CutShort);
     }
     let version = number(input)?;
     if call[0] == 4 {
@@ -162,7 +168,7 @@ pub fn read(input: &mut impl Read) -> Result<Option<Request>, Fault> {
         1 => Request::Check { version, problem },
         2 => Request::Cnf { version, problem, room: count(input, CNF_WORDS)? },
         3 => Request::Witness { version, problem, witness: items(input, WITNESS_BYTES)? },
-        _ => Request::Refutation {
+        5 => Request::Refutation {
             version,
             problem,
             refutation: signed(input, REFUTATION_WORDS)?,
@@ -170,5 +176,6 @@ pub fn read(input: &mut impl Read) -> Result<Option<Request>, Fault> {
             by_numbers: count(input, AREA_WORDS)?,
             by_clauses: count(input, AREA_WORDS)?,
         },
+        _ => Request::Find { version, problem, room: count(input, WITNESS_BYTES)? },
     }))
 }

@@ -4,7 +4,7 @@ use crate::answers::{self, judge_problem_refutation};
 use crate::make::{self, shapes};
 use crate::problem::{check, Answer, Problem};
 use crate::random::Random;
-use crate::{cnf, job, models, refutation, splitting, witness};
+use crate::{cnf, finder, job, models, refutation, splitting, witness};
 
 const T_TEXT: &str = "p cnf 6 12\n1 0\n-2 0\n-3 -2 -2 0\n-3 2 2 0\n-4 2 0\n4 -2 0\n-5 4 0\n5 -4 0\n\
                       -3 -6 5 0\n-3 6 -5 0\n-6 3 0\n4 0\n";
@@ -37,7 +37,8 @@ fn witness_of(problem: &Problem, model: &[bool]) -> Vec<u8> {
     bytes
 }
 
-/// The models stand for the witnesses, each for one and each witness for one.
+/// The models stand for the witnesses, each for one and each witness for one; the finder has the first of all
+/// candidates that the judge accepts, and has none exactly if there is no model.
 fn models_are_witnesses(tally: &mut Tally, words: &[u32]) -> usize {
     let problem = check(1, words).expect("made well formed");
     let cnf = cnf::words(&problem);
@@ -48,7 +49,42 @@ fn models_are_witnesses(tally: &mut Tally, words: &[u32]) -> usize {
     tally.expect(read == witnesses, || {
         format!("{words:?}: {} models, {} witnesses", read.len(), witnesses.len())
     });
+    let found = finder::first(&problem);
+    tally.expect(found.as_ref() == witnesses.first(), || format!("{words:?}: found {found:?}"));
+    tally.expect(found.is_none() == models.is_empty(), || format!("{words:?}: {} models", models.len()));
     witnesses.len()
+}
+
+/// Problems as call 6 is tried on, with up to twelve bits: most of their latches are fixed.
+fn finds_the_first(tally: &mut Tally, random: &mut Random) {
+    let mut tried = 0;
+    for number in 0..2_000 {
+        let words = make::subject(random, number);
+        let problem = check(1, &words).expect("made well formed");
+        if problem.witness_length() <= 13 {
+            models_are_witnesses(tally, &words);
+            tried += 1;
+        }
+    }
+    tally.expect(tried > 1_000, || format!("the finder was tried on {tried} problems"));
+}
+
+/// What call 6 answers of T and of the counter, with room to spare.
+fn found_figures(tally: &mut Tally) {
+    let (f_12, g_f_12) = ([0, 12, 0, 4, 0, 0], [0, 12, 0, 4, 0, 0, 5, 1, 0]);
+    let cases: [(Vec<u32>, u32, usize, [u8; 4]); 5] = [
+        (make::T.to_vec(), 29, 0, [7, 7, 7, 7]),
+        (make::counter(2, &f_12), 29, 0, [7, 7, 7, 7]),
+        (make::counter(3, &f_12), 0, 3, [0, 0, 0, 7]),
+        (make::counter(3, &g_f_12), 0, 3, [1, 0, 0, 7]),
+        (make::counter(7, &g_f_12), 0, 3, [1, 0, 0, 7]),
+    ];
+    for (words, number, place, wanted) in cases {
+        let mut room = [7; 4];
+        let answer = finder::find(&check(1, &words).expect("well formed"), &mut room);
+        let right = answer == Answer { number, place } && room == wanted;
+        tally.expect(right, || format!("{words:?}: {answer:?}, {room:?}"));
+    }
 }
 
 fn figures(tally: &mut Tally) {
@@ -99,25 +135,32 @@ fn refutations(tally: &mut Tally, random: &mut Random) {
 }
 
 /// The answers that each call can give.
-const ANSWERS: [&[u32]; 5] = [
+const ANSWERS: [&[u32]; 6] = [
     &[0, 1, 2, 3, 4, 5, 15],
     &[0, 1, 2, 3, 4, 5, 6, 15],
     &[0, 1, 2, 3, 4, 5, 7, 8, 9, 10, 15],
     &[0, 11, 12, 13, 14, 16],
     &[0, 1, 2, 3, 4, 5, 6, 11, 12, 13, 14, 15],
+    &[0, 1, 2, 3, 4, 5, 15, 17, 18, 29],
 ];
 
 /// The requests made from the seed lead each call to each of its answers, and to no other.
 fn requests_reach_all(tally: &mut Tally, seed: u64) {
     let mut made = Vec::new();
-    for (kind, count) in [("cnf", 250), ("problem", 1_000), ("witness", 20), ("refute", 20)] {
+    for (kind, count) in [("cnf", 250), ("problem", 1_000), ("witness", 20), ("refute", 20), ("find", 1_000)]
+    {
         made.extend(make::requests(seed, kind, count).expect("a kind"));
     }
     let times = answers::tally(&made);
-    for call in 1..=5 {
-        let found: Vec<u32> = times.keys().filter(|key| key.0 == call).map(|key| key.1).collect();
+    for call in 1..=6 {
+        let mut found: Vec<u32> = times.keys().filter(|key| key.0 == call).map(|key| key.1).collect();
+        found.dedup();
         let wanted = ANSWERS[call as usize - 1];
         tally.expect(found == wanted, || format!("call {call} has the answers {found:?}"));
+    }
+    for (sort, least) in [(Some(0), 100), (Some(1), 100), (Some(2), 10), (Some(3), 5)] {
+        let times = times.get(&(6, 0, sort)).copied().unwrap_or(0);
+        tally.expect(times > least, || format!("the first byte {sort:?} is found {times} times"));
     }
 }
 
@@ -125,6 +168,7 @@ fn requests_reach_all(tally: &mut Tally, seed: u64) {
 pub fn run(seed: u64) -> bool {
     let mut tally = Tally { passed: 0, failed: 0 };
     figures(&mut tally);
+    found_figures(&mut tally);
     let mut random = Random::new(seed);
     let mut with_witness = 0;
     let problems = 20_000;
@@ -141,6 +185,7 @@ pub fn run(seed: u64) -> bool {
     for _ in 0..2_000 {
         refutations(&mut tally, &mut random);
     }
+    finds_the_first(&mut tally, &mut random);
     requests_reach_all(&mut tally, seed);
     println!("{} passed, {} failed", tally.passed, tally.failed);
     tally.failed == 0

@@ -12,6 +12,7 @@ use crate::output::print_all;
 use crate::output::print_answer;
 use crate::output::print_areas;
 use crate::output::print_room;
+use crate::output::print_witness;
 
 pub enum Outcome {
     Answered,
@@ -22,6 +23,8 @@ pub enum Outcome {
 const AREA_FILL: u64 = 7;
 
 const ROOM_FILL: i32 = 7;
+
+const BYTE_FILL: u8 = 7;
 
 fn fill_area(area: &mut [u64]) {
     let mut i = 0;
@@ -35,6 +38,14 @@ fn fill_room(room: &mut [i32]) {
     let mut i = 0;
     while i < room.len() {
         room[i] = ROOM_FILL;
+        i += 1;
+    }
+}
+
+fn fill_bytes(room: &mut [u8]) {
+    let mut i = 0;
+    while i < room.len() {
+        room[i] = BYTE_FILL;
         i += 1;
     }
 }
@@ -261,4 +272,35 @@ pub(crate) fn judge_refutation(
         by_numbers,
         by_clauses,
     )
+}
+
+fn find_filled(version: u32, problem: &[u32], room: &mut [u8]) {
+    fill_bytes(room);
+    let r = finder::find::find(version, problem, room);
+    print_witness(finder::answer::number(r), finder::answer::place(r), room);
+}
+
+// Reads what is left of the request; as much of the room is lent as it asks for.
+fn find_within(version: u32, problem: &[u32], room: &mut [u8]) -> Outcome {
+    let size = match input::next_count(room.len()) {
+        Got::Items(n) => n,
+        Got::Broken(fault) => return Outcome::Broken(fault),
+    };
+    find_filled(version, problem, &mut room[0..size]);
+    Outcome::Answered
+}
+
+// Call 6. The room is that of a witness that is read.
+pub(crate) fn find(
+    version: u32,
+    bytes: &mut [u8; LARGEST],
+    problem: &mut [u32; PROBLEM_WORDS],
+    room: &mut [u8; WITNESS_BYTES],
+) -> Outcome {
+    let words = match input::next_words(bytes, problem) {
+        Got::Items(n) => n,
+        Got::Broken(fault) => return Outcome::Broken(fault),
+    };
+    let problem: &[u32] = problem;
+    find_within(version, &problem[0..words], room)
 }

@@ -40,6 +40,7 @@ fn dispatch(
             by_numbers,
             by_clauses,
         ),
+        6 => calls::find(number, bytes, problem, witness),
         _ => Outcome::Broken(Fault::CutShort),
     }
 }

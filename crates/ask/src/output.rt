@@ -99,6 +99,28 @@ fn put_room(room: &[i32], at: usize, out: &mut [u8; OUT]) -> usize
     put_byte(b'\n', next, out)
 }
 
+// A byte as a number. It fits by its type.
+fn wide(byte: u8) -> u64 {
+    byte as u64
+}
+
+// A line with the bytes of a witness room, as numbers.
+fn put_witness(room: &[u8], at: usize, out: &mut [u8; OUT]) -> usize
+    requires { ⌜ at < line-bytes ⌝ }
+    ensures { λ r. ⌜ r < line-bytes ⌝ }
+{
+    let mut next = at;
+    let mut i = 0;
+    while i < room.len() {
+        if 0 < i {
+            next = put_byte(b' ', next, out);
+        }
+        next = put_number(wide(room[i]), next, out);
+        i += 1;
+    }
+    put_byte(b'\n', next, out)
+}
+
 // Writes out what was gathered.
 fn finish(at: usize, out: &[u8; OUT])
     requires { ⌜ at < line-bytes ⌝ }
@@ -119,6 +141,14 @@ pub(crate) fn print_room(number: u32, place: usize, room: &[i32]) {
     let mut out = [0u8; OUT];
     let answered = put_answer(number, place, 0, &mut out);
     let at = put_room(room, answered, &mut out);
+    finish(at, &out);
+}
+
+// An answer and the witness room.
+pub(crate) fn print_witness(number: u32, place: usize, room: &[u8]) {
+    let mut out = [0u8; OUT];
+    let answered = put_answer(number, place, 0, &mut out);
+    let at = put_witness(room, answered, &mut out);
     finish(at, &out);
 }
 

@@ -1,4 +1,4 @@
--- The page to trust: the three demands as theorems of the calls of document 01, each stated in full and proved by the theorem that it names.
+-- The page to trust: the three demands as theorems of the calls of document 01 and of Q-3 of document 02, each stated in full and proved by the theorem that it names.
 -- That a call keeps the promise that a theorem asks for is its `ensures`, in crates/*/src; what is to be believed besides is the definitions that
 -- the statements name (docs/PROMISES.md lists both). Assumes nothing.
 use mathlib.Core.{Path._≡_, List.List, List._++_, List.List·Memᴰ, Logic._↔_, Logic._⊎_}
@@ -13,13 +13,14 @@ use Rattle.clauses.specs.Refutable.{Refutation, WordsFit, AcceptedWords}
 use Rattle.refutation.specs.declared.{RefutationAnswer.RefutationAnswer}
 use Rattle.refutation.specs.declared.RefutationAnswer.the-variants as cnf-judge
 use Rattle.refutation.specs.Promise.{Judged}
+use Rattle.meaning.specs.Limits.{search-limit}
 use Rattle.meaning.specs.Problem as problems
 use Rattle.meaning.specs.Problem.{Problem, problem, node}
 use Rattle.meaning.specs.Runs.{Position, StartsRight, EndlessRun}
 use Rattle.meaning.specs.Formulas.{Formula, atom, until, release, formula, Holds}
 use Rattle.meaning.specs.Bounded.{prefix, lasso, prefix-value}
 use Rattle.meaning.specs.Witnesses as witnesses
-use Rattle.meaning.specs.Witnesses.{witness-length, byte, shape, first-latches, inputs-at, Closes, lasso-path, Witness}
+use Rattle.meaning.specs.Witnesses.{witness-length, open-bytes, at-or-before, byte, shape, first-latches, inputs-at, Closes, lasso-path, Witness}
 use Rattle.meaning.specs.Cnf.{cnf, cnf-words, variables}
 use Rattle.meaning.specs.Calls.{WellFormed, judge-bytes, judge-witness, judge-refutation}
 use Rattle.meaning.specs.JobFile.{job-version, job-words, job-problem, job-answer, header-line, clause-line, printed}
@@ -35,6 +36,9 @@ use Rattle.encoder.specs.Promise.{EncodedAs}
 use Rattle.witness.specs.declared.WitnessAnswer.{WitnessAnswer}
 use Rattle.witness.specs.declared.WitnessAnswer.the-variants as witness-judge
 use Rattle.witness.specs.Promise.{answer-of}
+use Rattle.finder.specs.declared.{Finding.Finding}
+use Rattle.finder.specs.declared.Finding.the-variants as finder
+use Rattle.finder.specs.Promise.{FoundAs, Searched}
 use Rattle.job_file.specs.declared.{text.Printed.Printed}
 use Rattle.job_file.specs.Promise.{Prints}
 use Rattle.checker.specs.declared.{Refuted.Refuted}
@@ -58,6 +62,11 @@ encoded-unique = Rattle.encoder.proofs.Unique.encoded-unique
 pub judgement-unique : (version : ℕ) (ws bs : List ℕ) (r r′ : WitnessAnswer)
     → answer-of r ≡ judge-witness version ws bs → answer-of r′ ≡ judge-witness version ws bs → r ≡ r′
 judgement-unique = Rattle.witness.proofs.Unique.judgement-unique
+
+-- The finder, with the witness room.
+pub found-unique : {version : ℕ} {ws before : List ℕ} {r r′ : Finding} {after after′ : List ℕ}
+    → FoundAs version ws before r after → FoundAs version ws before r′ after′ → (r ≡ r′) × (after ≡ after′)
+found-unique = Rattle.finder.proofs.Unique.found-unique
 
 -- The refutation judge for any CNF, of v variables, with both work areas.
 pub judged-unique : {v : ℕ} {cnf refutation : List ℤ} {numbers clauses : List ℕ} {r r′ : RefutationAnswer} {n n′ c c′ : List ℕ}
@@ -288,3 +297,36 @@ variables-fit version ws formed = Rattle.meaning.proofs.Ranges.variables-fit (p
 pub never-16 : (version : ℕ) (ws : List ℕ) → WellFormed version ws → {refutation : List ℤ} {numbers clauses : List ℕ} {r : RefutationAnswer} {numbers′ clauses′ : List ℕ}
     → Judged (variables (problem version ws)) (cnf-words (problem version ws)) refutation numbers clauses r numbers′ clauses′ → (i : ℕ) → r ≡ cnf-judge.BadCnf i → ⊥
 never-16 version ws formed = Rattle.checker.proofs.CallsMean.never-16 (problem version ws) (proper-if-well-formed version ws formed)
+
+-- ════════ Document 02, Q-3: the finder ════════
+
+module _ (version : ℕ) (ws room : List ℕ) {r : Finding} {after : List ℕ} (call : FoundAs version ws room r after) where
+  -- "list the first witness in byte order (0, place its length)": what the room then holds is a witness, and each witness is at or after it.
+  pub found-first : {n : ℕ} → r ≡ finder.Found n
+      → WellFormed version ws × Searched (problem version ws) (length room) × (n ≡ witness-length (problem version ws))
+      × ((bs : List ℕ) × (after ≡ written bs room) × Witness (problem version ws) bs × ((cs : List ℕ) → Witness (problem version ws) cs → at-or-before bs cs ≡ true))
+  found-first = Rattle.finder.proofs.Means.found-first version ws room call
+
+  -- Where there is a witness one is found, given that 1 to 5, 17 and 18 pass.
+  pub found-if-any : WellFormed version ws → Searched (problem version ws) (length room)
+      → (bs : List ℕ) → Witness (problem version ws) bs → r ≡ finder.Found (witness-length (problem version ws))
+  found-if-any = Rattle.finder.proofs.Means.found-if-any version ws room call
+
+  -- "Its none is proved equal to the CNF can't be satisfied": given the same.
+  pub none-unsatisfiable : WellFormed version ws → Searched (problem version ws) (length room)
+      → (r ≡ finder.NoneExists) ↔ (((a : Assignment) × Model (problem version ws) a) → ⊥)
+  none-unsatisfiable = Rattle.finder.proofs.Means.none-unsatisfiable version ws room call
+
+  -- So none at any bound from 0 to k.
+  pub none-excludes : r ≡ finder.NoneExists → WellFormed version ws × Searched (problem version ws) (length room)
+      × ((j : ℕ) → j ≤ problem version ws .bound → (bs : List ℕ) → Witness (at-bound (problem version ws) j) bs → ⊥)
+  none-excludes = Rattle.finder.proofs.Means.none-excludes version ws room call
+
+  -- "otherwise, after 1 to 5, refusal 17, place that sum"; "room too small is refusal 18, place the bytes needed, after 17".
+  pub refused-17 : (n : ℕ) → (r ≡ finder.TooMuchOpen n)
+      ↔ (WellFormed version ws × (search-limit < open-bytes (problem version ws)) × (n ≡ open-bytes (problem version ws)))
+  refused-17 = Rattle.finder.proofs.Means.too-much-open-if version ws room call
+
+  pub refused-18 : (n : ℕ) → (r ≡ finder.RoomTooSmall n)
+      ↔ (WellFormed version ws × (open-bytes (problem version ws) ≤ search-limit) × (length room < witness-length (problem version ws)) × (n ≡ witness-length (problem version ws)))
+  refused-18 = Rattle.finder.proofs.Means.room-too-small-if version ws room call

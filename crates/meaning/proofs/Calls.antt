@@ -9,7 +9,7 @@ use Rattle.clauses.specs.Refutations.{steps-of, judge-steps, judge-clauses}
 use Rattle.meaning.specs.Limits.{program-room}
 use Rattle.meaning.specs.Problem.{problem}
 use Rattle.meaning.specs.Cnf.{cnf, cnf-words, variables}
-use Rattle.meaning.specs.Calls.{check-parts, witness-parts, judge-bytes, room-checks, write-cnf, judge-witness, preparing-parts, step-parts, judge-refutation}
+use Rattle.meaning.specs.Calls.{check-parts, witness-parts, judge-bytes, room-checks, write-cnf, judge-witness, witnesses, finding-checks, first-found, find-witness, preparing-parts, step-parts, judge-refutation}
 use Rattle.meaning.specs.JobFile.{job-version, job-words, job-checks, job-answer}
 use Rattle.meaning.proofs.Check.{problem-checked, checked-then}
 
@@ -23,6 +23,12 @@ module _ (version : ℕ) (ws : List ℕ) where
   pub judge-witness-is : (bs : List ℕ) → judge-witness version ws bs ≡ problem-checked version ws (judge-bytes (problem version ws) bs)
   unfolding judge-witness judge-bytes
   judge-witness-is bs = checked-then version ws (witness-parts (problem version ws) bs) (granted 0)
+
+  pub find-witness-is : (room : ℕ)
+      → find-witness version ws room
+      ≡ problem-checked version ws (first-failing (finding-checks (problem version ws) room) (first-found (witnesses (problem version ws))))
+  unfolding find-witness
+  find-witness-is room = checked-then version ws (finding-checks (problem version ws) room ∷ []) (first-found (witnesses (problem version ws)))
 
   module _ (refutation : List ℤ) (room by-numbers by-clauses : ℕ) where
     -- After 6 it is the judge of the CNF's clauses.

@@ -1,17 +1,17 @@
 -- The check says yes exactly where its rules are met, and the problem of such words is proper. Assumes nothing.
 use mathlib.Core.Path.{_≡_, refl, sym, _∙_}
 use mathlib.Core.Logic.{_↔_}
-use mathlib.Core.Bool.{Bool, true, false, true≢false}
+use mathlib.Core.Bool.{Bool, true, false, not, true≢false}
 use mathlib.Core.List.{List, [], _∷_, _++_}
 use Prim.Native.Nat.{ℕ, zero, suc, _+_, _*_, _≤_, _<_, zero-le}
 use native.Mathlib.Omega.{arith}
-use borrow.Author.Tests.{leb-true, le-leb, ltb-true, lt-ltb, eqb-true, eq-eqb}
-use lib.Dec.{leb, lit<}
+use borrow.Author.Tests.{leb-true, le-leb, ltb-true, lt-ltb, eqb-true, eq-eqb, ne-eqb}
+use lib.Dec.{leb, eqb, lit<}
 use lib.ListN.{length, getD}
 use Rattle.clauses.specs.Lists.{all-of, joined}
 use Rattle.clauses.specs.Answers.{Answer, Check, check, first-failing, first-failing-part, granted}
 use Rattle.clauses.proofs.Satisfaction.{both-true, false-if-not-true, all-of-at, first-true, second-true}
-use Rattle.clauses.proofs.Answers.{passing, refusing, first-failing-passed, first-failing-joined, parts-append, all-pass-if-yes, number-of}
+use Rattle.clauses.proofs.Answers.{passing, refusing, other-than, passed-by-number, first-failing-passed, first-failing-joined, parts-append, all-pass-if-yes, number-of}
 use Rattle.meaning.specs.Problem.{Problem, W, Outline, outline, word, node-place, children, node-of, problem-by, problem}
 use Rattle.meaning.specs.Check.{largest-literal, first-right, second-right, children-of, header-checks, limit-check, limit-checks, length-checks, latch-checks, gate-checks, node-checks}
 use Rattle.meaning.specs.Proper.{LatchRight, GateRight, FirstRight, SecondRight, NodeRight, InLimits, RulesMet, NodeProper, Proper}
@@ -127,16 +127,38 @@ module _ (version : ℕ) (ws : List ℕ) where
   abbrev o : Outline
   o = outline version ws
 
-  pub all-checks-refusing : all-of refusing (all-checks version ws) ≡ true
-  all-checks-refusing =
-      all-of-joined refusing (check-parts version ws) .1
-      (refl
-      and refl
-      and refl
-      and all-of-each-below refusing (latch-checks o ws) (o .latches) (λ i l. refl)
-      and all-of-each-below refusing (gate-checks o ws) (o .gates) (λ j l. refl)
-      and all-of-each-below refusing (node-checks o ws) (o .nodes) (λ n l. refl)
+  -- The checks of a problem have the numbers 1 to 5 and 15.
+  all-checks-other : (k : ℕ) → ((n : ℕ) → 1 ≤ n → n ≤ 15 → n ≡ k → ⊥) → all-of (other-than k) (all-checks version ws) ≡ true
+  all-checks-other k other =
+      all-of-joined (other-than k) (check-parts version ws) .1
+      (both-true (is 15 (omega arith) (omega arith)) (both-true one refl)
+      and both-true two (both-true two (both-true two (both-true two (both-true two refl))))
+      and both-true one refl
+      and all-of-each-below (other-than k) (latch-checks o ws) (o .latches) (λ i l. both-true four (both-true (is 3 (omega arith) (omega arith)) refl))
+      and all-of-each-below (other-than k) (gate-checks o ws) (o .gates) (λ j l. both-true four (both-true four refl))
+      and all-of-each-below (other-than k) (node-checks o ws) (o .nodes) (λ n l. both-true five (both-true five (both-true five refl)))
       and tt)
+    where
+      is : (n : ℕ) → 1 ≤ n → n ≤ 15 → not (eqb n k) ≡ true
+      is n l h = rw (ne-eqb n k (other n l h))
+
+      one : not (eqb 1 k) ≡ true
+      one = is 1 (omega arith) (omega arith)
+
+      two : not (eqb 2 k) ≡ true
+      two = is 2 (omega arith) (omega arith)
+
+      four : not (eqb 4 k) ≡ true
+      four = is 4 (omega arith) (omega arith)
+
+      five : not (eqb 5 k) ≡ true
+      five = is 5 (omega arith) (omega arith)
+
+  pub all-checks-refusing : all-of refusing (all-checks version ws) ≡ true
+  all-checks-refusing = all-checks-other 0 (λ n l h e. omega arith)
+
+  pub all-checks-below : (k : ℕ) → 15 < k → all-of (other-than k) (all-checks version ws) ≡ true
+  all-checks-below k over = all-checks-other k (λ n l h e. omega arith)
 
   pub limits-pass : InLimits o → all-of passing (limit-checks ws) ≡ true
   limits-pass w =
@@ -215,6 +237,12 @@ pub well-formed-if-checked : (version : ℕ) (ws : List ℕ) (after : Answer) �
 well-formed-if-checked version ws after e =
     well-formed-if-all-pass version ws
     (all-pass-if-yes (all-checks version ws) after (all-checks-refusing version ws) (rw checked-by-all at e))
+
+-- A number over 15 comes from what comes after the check.
+pub well-formed-if-over : (version : ℕ) (ws : List ℕ) (after : Answer) (k : ℕ) → 15 < k → problem-checked version ws after .number ≡ k → WellFormed version ws
+well-formed-if-over version ws after k over e =
+    well-formed-if-all-pass version ws
+    (passed-by-number k (all-checks version ws) after (all-checks-below version ws k over) (rw checked-by-all at e))
 
 -- A refusal of the check does not depend on what comes after it.
 pub not-well-formed : (version : ℕ) (ws : List ℕ) (a b : Answer) → ¬ WellFormed version ws

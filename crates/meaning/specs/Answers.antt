@@ -1,4 +1,4 @@
--- Document 01, "Answers": the rows that a problem, its witness and its job file can meet. Assumes nothing.
+-- Documents 01 and 02, "Answers": the rows that a problem, its witness, its job file and its finder can meet. Assumes nothing.
 use Prim.Native.Nat.{ℕ}
 use Rattle.clauses.specs.Answers.{Answer, answer}
 
@@ -45,3 +45,15 @@ formula-false = answer 10
 -- 15: job file; see there
 abbrev pub bad-job : ℕ → Answer
 bad-job = answer 15
+
+-- 17: more than 16 bytes are open; how many are
+abbrev pub too-much-open : ℕ → Answer
+too-much-open = answer 17
+
+-- 18: witness room too small; the bytes needed
+abbrev pub witness-room-too-small : ℕ → Answer
+witness-room-too-small = answer 18
+
+-- 29: no witness exists; 0
+abbrev pub none-exists : ℕ → Answer
+none-exists = answer 29

@@ -1,7 +1,7 @@
--- Document 01: the whole answer of each problem call, and every lent buffer after it. "Order: 5 words, limits, length, then words in order;
+-- Document 01, and Q-3 of document 02: the whole answer of each problem call, and every lent buffer after it. "Order: 5 words, limits, length, then words in order;
 -- then 6; then 7 to 10, or 11, 12, 13, 14": each call's order is one list of parts, and the first check in it that fails answers.
 -- Assumes nothing.
-use mathlib.Core.Bool.{cond}
+use mathlib.Core.Bool.{Bool, cond}
 use mathlib.Core.List.{List, [], _∷_, _++_}
 use mathlib.Core.Path.{_≡_}
 use Prim.Native.Nat.{ℕ}
@@ -11,10 +11,11 @@ use lib.IntN.{ℤ}
 use Rattle.clauses.specs.Lists.{those, written}
 use Rattle.clauses.specs.Answers.{Answer, Check, check, first-failing-part, granted}
 use Rattle.clauses.specs.Refutations.{refutation-checks, area-checks, step-checks, closing-checks, judged, steps-of, numbers-area, clauses-area, area-after}
-use Rattle.meaning.specs.Answers.{room-too-small}
+use Rattle.meaning.specs.Limits.{search-limit}
+use Rattle.meaning.specs.Answers.{room-too-small, too-much-open, witness-room-too-small, none-exists}
 use Rattle.meaning.specs.Problem.{Problem, Outline, outline, problem}
 use Rattle.meaning.specs.Check.{header-checks, limit-checks, length-checks, latch-checks, gate-checks, node-checks, each-below}
-use Rattle.meaning.specs.Witnesses.{shape, byte-checks, reset-checks, loop-checks, formula-checks, candidates}
+use Rattle.meaning.specs.Witnesses.{witness-length, shape, open-bytes, byte-checks, reset-checks, loop-checks, formula-checks, candidates}
 use Rattle.meaning.specs.Cnf.{cnf, cnf-words, variables}
 
 -- ════════ The order of answers ════════
@@ -87,8 +88,37 @@ unfoldable pub judge-witness : ℕ → List ℕ → List ℕ → Answer
 judge-witness version ws bs = first-failing-part (check-parts version ws ++ witness-parts (problem version ws) bs) (granted 0)
 
 -- All witnesses, in byte order: those that the judge accepts.
+abbrev pub accepted : Problem → List ℕ → Bool
+accepted p bs = eqb (judge-bytes p bs .number) 0
+
 unfoldable pub witnesses : Problem → List (List ℕ)
-witnesses p = those (λ bs. eqb (judge-bytes p bs .number) 0) (candidates p)
+witnesses p = those (accepted p) (candidates p)
+
+-- ════════ Find a witness ════════
+
+-- "otherwise, after 1 to 5, refusal 17", then 18, "before the search".
+abbrev pub finding-checks : Problem → ℕ → List Check
+finding-checks p room =
+    check (leb (open-bytes p) search-limit) (too-much-open (open-bytes p))
+    ∷ check (leb (witness-length p) room) (witness-room-too-small (witness-length p))
+    ∷ []
+
+-- "the first witness in byte order (0, place its length)", or "none exists (29, place 0)".
+abbrev pub first-found : List (List ℕ) → Answer
+first-found [] = none-exists 0
+first-found (bs ∷ rest) = granted (length bs)
+
+unfoldable pub find-witness : ℕ → List ℕ → ℕ → Answer
+find-witness version ws room =
+    first-failing-part (check-parts version ws ++ (finding-checks (problem version ws) room ∷ [])) (first-found (witnesses (problem version ws)))
+
+-- At 0 the witness room holds the first witness and then what it held; "untouched on none", and at a refusal.
+abbrev pub with-first : List (List ℕ) → List ℕ → List ℕ
+with-first [] room = room
+with-first (bs ∷ rest) room = written bs room
+
+unfoldable pub room-after-finding : Answer → ℕ → List ℕ → List ℕ → List ℕ
+room-after-finding a version ws room = cond (eqb (a .number) 0) (with-first (witnesses (problem version ws)) room) room
 
 -- ════════ Judge a refutation of a problem's CNF ════════
 

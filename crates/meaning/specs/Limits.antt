@@ -1,4 +1,4 @@
--- Document 01's limits, each under its one name. Assumes nothing.
+-- The limits of documents 01 and 02, each under its one name. Assumes nothing.
 use Prim.Native.Nat.{ℕ}
 
 -- "Limits: I and L 0 to 64, A 0 to 1,024, N 1 to 64, k 0 to 31."
@@ -24,3 +24,7 @@ job-limit = 16_384
 -- "The program has 8,192 CNF words."
 unfoldable pub program-room : ℕ
 program-room = 8_192
+
+-- "If free resets plus I(k+1) are at most 16"
+unfoldable pub search-limit : ℕ
+search-limit = 16

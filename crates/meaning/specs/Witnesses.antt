@@ -1,14 +1,14 @@
--- Document 01: a witness as bytes, what makes it one, and the checks 7 to 10 of its judge. Assumes nothing.
-use mathlib.Core.Bool.{Bool, true, false, Bool·beq}
+-- Document 01: a witness as bytes, what makes it one, and the checks 7 to 10 of its judge; byte order, for Q-3 of document 02. Assumes nothing.
+use mathlib.Core.Bool.{Bool, true, false, Bool·beq, _&&_, _||_}
 use mathlib.Core.List.{List, [], _∷_, _++_, map}
 use mathlib.Core.Path.{_≡_}
 use Prim.Native.Nat.{ℕ, zero, suc, _+_, _*_, _≤_, _<_}
-use lib.Dec.{leb, eqb}
+use lib.Dec.{leb, ltb, eqb}
 use lib.ListN.{length, getD, take, drop}
-use Rattle.clauses.specs.Lists.{numbers, numbered, each}
+use Rattle.clauses.specs.Lists.{numbers, numbered, each, those}
 use Rattle.clauses.specs.Answers.{Check, check}
 use Rattle.meaning.specs.Answers.{bad-witness, against-reset, open-loop, formula-false}
-use Rattle.meaning.specs.Problem.{Problem, latch}
+use Rattle.meaning.specs.Problem.{Problem, Latch, latch}
 use Rattle.meaning.specs.Runs.{Position, values, next-values, meets-reset, run-from, StartsRight}
 use Rattle.meaning.specs.Formulas.{formula, Holds}
 use Rattle.meaning.specs.Bounded.{Shape, prefix, lasso, looped, prefix-value}
@@ -115,3 +115,17 @@ all-bits (suc n) = map (λ bs. 0 ∷ bs) (all-bits n) ++ map (λ bs. 1 ∷ bs) (
 abbrev pub candidates : Problem → List (List ℕ)
 candidates p =
     each (numbers 0 (p .bound + 2)) (λ b. map (λ bs. b ∷ bs) (all-bits (length (p .latches) + p .inputs * (p .bound + 1))))
+
+-- Byte order: the first byte that differs decides.
+abbrev pub at-or-before : List ℕ → List ℕ → Bool
+at-or-before [] cs = true
+at-or-before (b ∷ bs) [] = false
+at-or-before (b ∷ bs) (c ∷ cs) = ltb b c || (eqb b c && at-or-before bs cs)
+
+-- "2 for free"
+abbrev pub is-free : Latch → Bool
+is-free c = eqb (c .reset) 2
+
+-- "free resets plus I(k+1)": the bytes after the first that no reset fixes.
+abbrev pub open-bytes : Problem → ℕ
+open-bytes p = length (those is-free (p .latches)) + p .inputs * (p .bound + 1)

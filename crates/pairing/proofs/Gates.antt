@@ -101,12 +101,8 @@ with-gates-unique (g ∷ gs) vs ws e n same gates =
 abbrev given : Position → List Bool
 given x = false ∷ (x .inputs ++ x .latches)
 
--- Variable 0 is false at each position.
-abbrev pub ZeroFalse : (ℕ → List Bool) → Type 0
-ZeroFalse rows = (i : ℕ) → getD (rows i) 0 false ≡ false
-
--- Gates are added behind the values, so the first stays.
-pub values-zero-false : (p : Problem) (path : ℕ → Position) → ZeroFalse (λ t. values p (path t))
+-- Variable 0 is false at each position: gates are added behind the values, so the first stays.
+pub values-zero-false : (p : Problem) (path : ℕ → Position) (t : ℕ) → getD (values p (path t)) 0 false ≡ false
 unfolding values
 values-zero-false p path t = with-gates-before (p .gates) (given (path t)) 0 (suc-le-suc zero-le)
 

@@ -29,4 +29,5 @@ pub mod Longer
 pub mod AtOrBelow
 pub mod Refutable
 pub mod ListedWitnesses
+pub mod FirstWitness
 pub mod Thirteen

@@ -7,7 +7,6 @@ use Prim.Native.Nat.{ℕ, zero, suc, _+_, _*_, _<_, _≤_, zero-le, suc-le-suc}
 use native.Mathlib.Nat.{le-of-suc-le-suc, not-suc-le-zero}
 use native.Mathlib.Omega.{arith}
 use borrow.Author.Tests.{eqb-true}
-use lib.Dec.{eqb}
 use lib.ListN.{length, getD, drop}
 use Rattle.clauses.specs.Lists.{numbers, each, those}
 use Rattle.clauses.specs.Answers.{granted}
@@ -15,7 +14,7 @@ use Rattle.clauses.proofs.Satisfaction.{all-of-member, those-member, those-pass
 use Rattle.clauses.proofs.Answers.{all-pass-if-yes, first-failing-passed, number-of}
 use Rattle.meaning.specs.Problem.{Problem}
 use Rattle.meaning.specs.Witnesses.{byte, Witness, all-bits, candidates}
-use Rattle.meaning.specs.Calls.{judge-bytes, witnesses}
+use Rattle.meaning.specs.Calls.{judge-bytes, accepted, witnesses}
 use Rattle.meaning.proofs.Numbers.{member-of-numbers, numbers-bounds}
 use Rattle.pairing.specs.Bounds.{Once}
 use Rattle.pairing.proofs.Witnesses.{all-checks, judged-by-all, all-checks-refusing, accepted-is-witness}
@@ -34,7 +33,7 @@ module _ {A B : Type 0} (f : A → List B) where
   each-member {x} {y} (List·Memᴰ·head {x = z} {xs = zs} e) m = Memᴰ·append-left (each zs f) (rw e at m)
   each-member (List·Memᴰ·tail {x = z} m′) m = Memᴰ·append-right (f z) (each-member m′ m)
 
-  of-each : {y : B} (xs : List A) → List·Memᴰ y (each xs f) → (x : A) × List·Memᴰ x xs × List·Memᴰ y (f x)
+  pub of-each : {y : B} (xs : List A) → List·Memᴰ y (each xs f) → (x : A) × List·Memᴰ x xs × List·Memᴰ y (f x)
   of-each [] m = absurd (List·Memᴰ·not-nil m)
   of-each {y} (x ∷ xs) m = go (List·Memᴰ·append-cases (f x) m) (λ (q : List·Memᴰ y (each xs f)). of-each xs q)
     where
@@ -58,7 +57,7 @@ bits-listed (suc n) (b ∷ bs) e h = go b (h 0 (suc-le-suc zero-le)) (bits-liste
 -- ════════ The list has exactly the witnesses ════════
 
 -- How many bytes come after the first.
-abbrev after-first : Problem → ℕ
+abbrev pub after-first : Problem → ℕ
 after-first p = length (p .latches) + p .inputs * (p .bound + 1)
 
 module _ (p : Problem) where
@@ -159,4 +158,4 @@ module _ (p : Problem) where
   -- No witness stands twice in it.
   pub listed-once : Once (witnesses p)
   unfolding witnesses
-  listed-once = once-if-apart (witnesses p) (apart-those (λ bs. eqb (judge-bytes p bs .number) 0) (candidates p) apart-candidates)
+  listed-once = once-if-apart (witnesses p) (apart-those (accepted p) (candidates p) apart-candidates)

@@ -78,3 +78,17 @@ module _ (k : ℕ) where
     release-to-last i h =
         ap (release-over f g end) (numbers-first i h)
         ∙ ap (λ y. g i && (f i || y)) (at-next-is k (λ j. release-over f g end (numbers j (suc k - j))) end (rw sub-self) i h)
+
+  -- What stands on the left is read only up to k.
+  module _ (f f′ g : ℕ → Bool) (end : Bool) (same : (i : ℕ) → i ≤ k → f i ≡ f′ i) where
+    pub until-left-same : (i : ℕ) → i ≤ k → until-over f g end (numbers i (suc k - i)) ≡ until-over f′ g end (numbers i (suc k - i))
+    until-left-same =
+        same-going-down k (λ i y. g i || (f′ i && y))
+        (λ i. until-over f g end (numbers i (suc k - i))) (λ i. until-over f′ g end (numbers i (suc k - i))) end end refl
+        (λ i h. until-to-last f g end i h ∙ rw (same i h)) (until-to-last f′ g end)
+
+    pub release-left-same : (i : ℕ) → i ≤ k → release-over f g end (numbers i (suc k - i)) ≡ release-over f′ g end (numbers i (suc k - i))
+    release-left-same =
+        same-going-down k (λ i y. g i && (f′ i || y))
+        (λ i. release-over f g end (numbers i (suc k - i))) (λ i. release-over f′ g end (numbers i (suc k - i))) end end refl
+        (λ i h. release-to-last f g end i h ∙ rw (same i h)) (release-to-last f′ g end)

@@ -1,26 +1,26 @@
 -- The bounded meaning satisfies the laws of the node variables, and these leave no other values. Assumes nothing.
-use mathlib.Core.Path.{_≡_, refl, sym, _∙_, ap, fun-ext, subst}
+use mathlib.Core.Path.{_≡_, refl, sym, _∙_, ap, subst}
 use mathlib.Core.Logic.{_⊎_, inl, inr}
 use mathlib.Core.Bool.{Bool, true, false, _&&_, _||_}
 use mathlib.Core.List.{List, []}
 use Prim.Native.Nat.{ℕ, zero, suc, _-_, _≤_, _<_, zero-le, _+_}
 use native.Mathlib.Nat.{le-refl, eq-or-lt-of-le, le-of-suc-le-suc}
 use native.Mathlib.Omega.{arith}
-use lib.ListN.{length}
+use lib.ListN.{length, getD}
 use Rattle.clauses.specs.Lists.{numbers}
 use Rattle.meaning.specs.Problem.{Problem, Left, Node, node, constant, child, atom, both, either, next, until, release}
-use Rattle.meaning.specs.Proper.{LeftProper, NodeProper, Proper}
+use Rattle.meaning.specs.Proper.{LeftProper}
+use Rattle.meaning.specs.Runs.{literal-value}
 use Rattle.meaning.specs.Formulas.{Formula, left-tree, tree-of, trees-after}
 use Rattle.meaning.specs.Bounded.{Shape, prefix, lasso, after, prefix-value}
 use Rattle.meaning.specs.LassoValue.{onward, until-over, release-over, loop-value, bounded-value}
 use Rattle.meaning.specs.Witnesses.{shape-of}
-use Rattle.pairing.specs.NodeLaws.{NodeLaws, left-value, at-next, op-value, Q-end, Q-value, E-value}
+use Rattle.pairing.specs.NodeLaws.{Earlier, ChildrenEarlier, NodeLaws, left-value, at-next, op-value, Q-end, Q-value, E-value}
 use Rattle.pairing.proofs.Trees.{tree, tree-unfolds}
 use Rattle.pairing.proofs.Prefixes.{up-to-inside, past-k-false, until-unfolds, release-unfolds}
-use Rattle.pairing.proofs.NextValues.{at-next-inside, at-next-last, at-next-is, at-next-same, same-going-down, until-to-last, release-to-last}
+use Rattle.pairing.proofs.NextValues.{at-next-inside, at-next-last, at-next-is, at-next-same, same-going-down, until-to-last, release-to-last, until-left-same, release-left-same}
 use Rattle.pairing.proofs.Unrolled.{until-unrolled, until-once-round, release-unrolled, release-once-round}
 use Rattle.pairing.proofs.UntilOnLassos.{after-last, after-inside}
-use Rattle.pairing.proofs.Gates.{ZeroFalse}
 
 -- The loop starts at 0 to k.
 abbrev pub StartWithin : Shape → Problem → Type 0
@@ -30,6 +30,10 @@ StartWithin (lasso l) p = l ≤ p .bound
 pub start-within : (p : Problem) (b : ℕ) → b ≤ p .bound + 1 → StartWithin (shape-of b) p
 start-within p zero h = tt
 start-within p (suc l) h = omega arith
+
+-- Variable 0 is false at each position of the run.
+abbrev pub ZeroFalse : ℕ → (ℕ → List Bool) → Type 0
+ZeroFalse k rows = (i : ℕ) → i ≤ k → getD (rows i) 0 false ≡ false
 
 -- ════════ One op, on a lasso ════════
 
@@ -97,20 +101,21 @@ module _ (p : Problem) (rows : ℕ → List Bool) where
   second-law s (until a b) n i h = until-to-last (p .bound) (left-value (P-of p s rows) a) (P-of p s rows b) false i h
   second-law s (release a b) n i h = release-to-last (p .bound) (left-value (P-of p s rows) a) (P-of p s rows b) true i h
 
-module _ (p : Problem) (rows : ℕ → List Bool) (zero-false : ZeroFalse rows) where
+module _ (p : Problem) (rows : ℕ → List Bool) (zero-false : ZeroFalse (p .bound) rows) where
   abbrev left-in : Left → Formula
   left-in a = left-tree (trees-after [] (p .nodes)) a
 
-  -- A constant on the left is the literal 1 or 0; on a prefix that is so to k.
+  -- A constant on the left is the literal 1 or 0, up to k.
   left-on-prefix : (a : Left) (i : ℕ) → i ≤ p .bound → prefix-value (p .bound) rows (left-in a) i ≡ left-value (P-of p prefix rows) a i
-  left-on-prefix (constant true) i h = up-to-inside (p .bound) i _ h ∙ rw (zero-false i)
-  left-on-prefix (constant false) i h = up-to-inside (p .bound) i _ h ∙ zero-false i
+  left-on-prefix (constant true) i h = up-to-inside (p .bound) i _ h ∙ rw (zero-false i h)
+  left-on-prefix (constant false) i h = up-to-inside (p .bound) i _ h ∙ zero-false i h
   left-on-prefix (child c) i h = refl
 
-  left-on-lasso : (l : ℕ) (a : Left) (i : ℕ) → loop-value l (p .bound) rows (left-in a) i ≡ left-value (P-of p (lasso l) rows) a i
-  left-on-lasso l (constant true) i = rw (zero-false i)
-  left-on-lasso l (constant false) i = zero-false i
-  left-on-lasso l (child c) i = refl
+  left-on-lasso : (l : ℕ) (a : Left) (i : ℕ) → i ≤ p .bound
+      → loop-value l (p .bound) rows (left-in a) i ≡ left-value (P-of p (lasso l) rows) a i
+  left-on-lasso l (constant true) i h = rw (zero-false i h)
+  left-on-lasso l (constant false) i h = zero-false i h
+  left-on-lasso l (child c) i h = refl
 
   -- On a prefix the next value past k is false.
   next-on-prefix : (f : Formula) (i : ℕ) → i ≤ p .bound
@@ -137,8 +142,8 @@ module _ (p : Problem) (rows : ℕ → List Bool) (zero-false : ZeroFalse rows) 
   loop-law l w (both a b) i h = refl
   loop-law l w (either a b) i h = refl
   loop-law l w (next a) i h = next-law l (p .bound) w (P-of p (lasso l) rows a) i h
-  loop-law l w (until a b) i h = rw (← left-on-lasso l a i) (until-law l (p .bound) w (loop-value l (p .bound) rows (left-in a)) (P-of p (lasso l) rows b) i h)
-  loop-law l w (release a b) i h = rw (← left-on-lasso l a i) (release-law l (p .bound) w (loop-value l (p .bound) rows (left-in a)) (P-of p (lasso l) rows b) i h)
+  loop-law l w (until a b) i h = rw (← left-on-lasso l a i h) (until-law l (p .bound) w (loop-value l (p .bound) rows (left-in a)) (P-of p (lasso l) rows b) i h)
+  loop-law l w (release a b) i h = rw (← left-on-lasso l a i h) (release-law l (p .bound) w (loop-value l (p .bound) rows (left-in a)) (P-of p (lasso l) rows b) i h)
 
   tree-law : (s : Shape) → StartWithin s p → (x : Node) → TreeLaw s x
   tree-law prefix w = prefix-law
@@ -153,12 +158,14 @@ module _ (p : Problem) (rows : ℕ → List Bool) (zero-false : ZeroFalse rows) 
   start-law l w (next a) n e = refl
   start-law l w (until a b) n e =
       ap (λ t. loop-value l (p .bound) rows t l) e
-      ∙ ap (λ f. until-over f (P-of p (lasso l) rows b) false (onward l (p .bound) (suc (p .bound)) l)) (fun-ext (left-on-lasso l a))
-      ∙ until-once-round (left-value (P-of p (lasso l) rows) a) (P-of p (lasso l) rows b) l (p .bound) w
+      ∙ until-once-round (loop-value l (p .bound) rows (left-in a)) (P-of p (lasso l) rows b) l (p .bound) w
+      ∙ until-left-same (p .bound) (loop-value l (p .bound) rows (left-in a)) (left-value (P-of p (lasso l) rows) a) (P-of p (lasso l) rows b) false
+      (left-on-lasso l a) l w
   start-law l w (release a b) n e =
       ap (λ t. loop-value l (p .bound) rows t l) e
-      ∙ ap (λ f. release-over f (P-of p (lasso l) rows b) true (onward l (p .bound) (suc (p .bound)) l)) (fun-ext (left-on-lasso l a))
-      ∙ release-once-round (left-value (P-of p (lasso l) rows) a) (P-of p (lasso l) rows b) l (p .bound) w
+      ∙ release-once-round (loop-value l (p .bound) rows (left-in a)) (P-of p (lasso l) rows b) l (p .bound) w
+      ∙ release-left-same (p .bound) (loop-value l (p .bound) rows (left-in a)) (left-value (P-of p (lasso l) rows) a) (P-of p (lasso l) rows b) true
+      (left-on-lasso l a) l w
 
   end-law : (s : Shape) → StartWithin s p → (x : Node) (n : ℕ) → tree p n ≡ tree-of (trees-after [] (p .nodes)) x
       → E-of p s rows n ≡ E-value s (Q-over p s rows x n)
@@ -166,16 +173,16 @@ module _ (p : Problem) (rows : ℕ → List Bool) (zero-false : ZeroFalse rows) 
   end-law (lasso l) w x n e = start-law l w x n e
 
 -- The bounded meaning satisfies the laws.
-pub node-laws : {p : Problem} → Proper p → (s : Shape) → StartWithin s p → (rows : ℕ → List Bool) → ZeroFalse rows
+pub node-laws : {p : Problem} → ChildrenEarlier p → (s : Shape) → StartWithin s p → (rows : ℕ → List Bool) → ZeroFalse (p .bound) rows
     → NodeLaws p s rows (P-of p s rows) (Q-of p s rows) (E-of p s rows)
-node-laws {p} proper s w rows zero-false = record {
+node-laws {p} children s w rows zero-false = record {
   P-law = λ n i m h.
       subst (λ (t : Formula).
       let f : ℕ → Bool = bounded-value s (p .bound) rows t in
       f i ≡ op-value (p .bound) rows (P-of p s rows) (E-of p s rows) (node p n) i (at-next (p .bound) f (E-value s f) i))
-      (sym (tree-unfolds proper n m)) (tree-law p rows zero-false s w (node p n) i h);
+      (sym (tree-unfolds children n m)) (tree-law p rows zero-false s w (node p n) i h);
   Q-law = λ n i m h. second-law p rows s (node p n) n i h;
-  E-law = λ n m. end-law p rows zero-false s w (node p n) n (tree-unfolds proper n m);
+  E-law = λ n m. end-law p rows zero-false s w (node p n) n (tree-unfolds children n m);
 }
 
 -- ════════ The laws leave no other values ════════
@@ -194,22 +201,25 @@ pub E-same : (p : Problem) (s : Shape) → StartWithin s p → (f g : ℕ → Bo
 E-same p prefix w f g same = refl
 E-same p (lasso l) w f g same = same l w
 
--- Where the rows are the same, and P and E of the nodes before n, node n's op has the same value.
-module _ (p : Problem) (rows rows′ : ℕ → List Bool) (P P′ : ℕ → ℕ → Bool) (E E′ : ℕ → Bool) (n : ℕ)
-    (same-rows : (i : ℕ) → i ≤ p .bound → rows i ≡ rows′ i)
-    (same-P : (m i : ℕ) → m < n → i ≤ p .bound → P m i ≡ P′ m i) (same-E : (m : ℕ) → m < n → E m ≡ E′ m) where
-  left-same : (a : Left) → LeftProper n a → (i : ℕ) → i ≤ p .bound → left-value P a i ≡ left-value P′ a i
+-- The rows give an atom's literal the same value; of another op nothing is asked.
+abbrev pub SameAtom : (ℕ → List Bool) → (ℕ → List Bool) → Node → ℕ → Type 0
+SameAtom rows rows′ x i = (a : ℕ) → x ≡ atom a → literal-value (rows i) a ≡ literal-value (rows′ i) a
+
+-- Where an atom's literal is the same, and P and E of the nodes before n, node n's op has the same value.
+module _ (k : ℕ) (rows rows′ : ℕ → List Bool) (P P′ : ℕ → ℕ → Bool) (E E′ : ℕ → Bool) (n : ℕ)
+    (same-P : (m i : ℕ) → m < n → i ≤ k → P m i ≡ P′ m i) (same-E : (m : ℕ) → m < n → E m ≡ E′ m) where
+  left-same : (a : Left) → LeftProper n a → (i : ℕ) → i ≤ k → left-value P a i ≡ left-value P′ a i
   left-same (constant b) l i h = refl
   left-same (child c) l i h = same-P c i l h
 
-  pub op-same : (x : Node) → NodeProper p n x → (i : ℕ) → i ≤ p .bound → (y : Bool)
-      → op-value (p .bound) rows P E x i y ≡ op-value (p .bound) rows′ P′ E′ x i y
-  op-same (atom x) l i h y = rw (same-rows i h)
-  op-same (both a b) l i h y = rw (same-P a i (l .0) h, same-P b i (l .1) h)
-  op-same (either a b) l i h y = rw (same-P a i (l .0) h, same-P b i (l .1) h)
-  op-same (next a) l i h y = at-next-same (p .bound) (P a) (P′ a) (E a) (E′ a) (λ j q. same-P a j l q) (same-E a l) i
-  op-same (until a b) l i h y = rw (left-same a (l .0) i h, same-P b i (l .1) h)
-  op-same (release a b) l i h y = rw (left-same a (l .0) i h, same-P b i (l .1) h)
+  pub op-same : (x : Node) → Earlier n x → (i : ℕ) → i ≤ k → SameAtom rows rows′ x i → (y : Bool)
+      → op-value k rows P E x i y ≡ op-value k rows′ P′ E′ x i y
+  op-same (atom x) l i h same y = same x refl
+  op-same (both a b) l i h same y = rw (same-P a i (l .0) h, same-P b i (l .1) h)
+  op-same (either a b) l i h same y = rw (same-P a i (l .0) h, same-P b i (l .1) h)
+  op-same (next a) l i h same y = at-next-same k (P a) (P′ a) (E a) (E′ a) (λ j q. same-P a j l q) (same-E a l) i
+  op-same (until a b) l i h same y = rw (left-same a (l .0) i h, same-P b i (l .1) h)
+  op-same (release a b) l i h same y = rw (left-same a (l .0) i h, same-P b i (l .1) h)
 
 module _ (p : Problem) (rows : ℕ → List Bool) (P Q P′ Q′ : ℕ → ℕ → Bool) (E E′ : ℕ → Bool) where
   abbrev SameAt : ℕ → Type 0
@@ -218,7 +228,7 @@ module _ (p : Problem) (rows : ℕ → List Bool) (P Q P′ Q′ : ℕ → ℕ �
   abbrev SameBefore : ℕ → Type 0
   SameBefore n = (m : ℕ) → m < n → SameAt m
 
-  module _ (s : Shape) (proper : Proper p) (w : StartWithin s p) (laws : NodeLaws p s rows P Q E) (laws′ : NodeLaws p s rows P′ Q′ E′) where
+  module _ (s : Shape) (children : ChildrenEarlier p) (w : StartWithin s p) (laws : NodeLaws p s rows P Q E) (laws′ : NodeLaws p s rows P′ Q′ E′) where
     same-node : (n : ℕ) → n < length (p .nodes) → SameBefore n → SameAt n
     same-node n m before i h = (P-same i h, Q-same i h, E-end)
       where
@@ -227,8 +237,8 @@ module _ (p : Problem) (rows : ℕ → List Bool) (P Q P′ Q′ : ℕ → ℕ �
 
         other : (j : ℕ) → j ≤ p .bound → (y : Bool) → op-value (p .bound) rows P′ E′ (node p n) j y ≡ step j y
         other j r y =
-            sym (op-same p rows rows P P′ E E′ n (λ t q. refl) (λ c t q h′. before c q t h′ .0) (λ c q. before c q 0 zero-le .2)
-            (node p n) (proper .nodes-proper n m) j r y)
+            sym (op-same (p .bound) rows rows P P′ E E′ n (λ c t q h′. before c q t h′ .0) (λ c q. before c q 0 zero-le .2)
+            (node p n) (children .earlier n m) j r (λ a e. refl) y)
 
         Q-same : (j : ℕ) → j ≤ p .bound → Q n j ≡ Q′ n j
         Q-same =
@@ -254,7 +264,7 @@ module _ (p : Problem) (rows : ℕ → List Bool) (P Q P′ Q′ : ℕ → ℕ �
 
 -- Any two tables that satisfy the laws are the same.
 pub node-laws-determine : {p : Problem} {s : Shape} {rows : ℕ → List Bool} {P Q P′ Q′ : ℕ → ℕ → Bool} {E E′ : ℕ → Bool}
-    → Proper p → StartWithin s p → NodeLaws p s rows P Q E → NodeLaws p s rows P′ Q′ E′
+    → ChildrenEarlier p → StartWithin s p → NodeLaws p s rows P Q E → NodeLaws p s rows P′ Q′ E′
     → (n i : ℕ) → n < length (p .nodes) → i ≤ p .bound → (P n i ≡ P′ n i) × (Q n i ≡ Q′ n i) × (E n ≡ E′ n)
-node-laws-determine {p} {s} {rows} {P} {Q} {P′} {Q′} {E} {E′} proper w laws laws′ n i l h =
-    same-before p rows P Q P′ Q′ E E′ s proper w laws laws′ (suc n) l n (omega arith) i h
+node-laws-determine {p} {s} {rows} {P} {Q} {P′} {Q′} {E} {E′} children w laws laws′ n i l h =
+    same-before p rows P Q P′ Q′ E E′ s children w laws laws′ (suc n) l n (omega arith) i h

@@ -19,7 +19,7 @@ use Rattle.meaning.specs.Formulas.{Formula, atom, both, either, next, until, re
 use Rattle.meaning.specs.Bounded.{prefix, up-to, until-for, release-for, prefix-value}
 use Rattle.meaning.specs.Witnesses.{shape, position, rows, Shows, Witness}
 use Rattle.pairing.proofs.UntilOnLassos.{until-found, until-if-found}
-use Rattle.pairing.proofs.Trees.{tree, tree-unfolds, formula-is}
+use Rattle.pairing.proofs.Trees.{tree, children-earlier, tree-unfolds, formula-is}
 use Rattle.pairing.proofs.Gates.{values-zero-false}
 
 -- ════════ Past k, and to k ════════
@@ -149,5 +149,5 @@ G-never-shown p proper a is-G bs w is-prefix =
     let some = proper .nodes-some in
     let shown : Shows p bs prefix = rw is-prefix at (w .shows) in
     let G-is : formula p ≡ release (atom 0) (tree p a) =
-    formula-is p ∙ tree-unfolds proper (length (p .nodes) - 1) (omega arith) ∙ ap (tree-of (trees-after [] (p .nodes))) is-G in
+    formula-is p ∙ tree-unfolds (children-earlier proper) (length (p .nodes) - 1) (omega arith) ∙ ap (tree-of (trees-after [] (p .nodes))) is-G in
     not-both (rw G-is at shown) (G-never-of-run p bs (tree p a) 0)

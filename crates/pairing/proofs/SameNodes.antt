@@ -1,19 +1,22 @@
--- The laws of the node variables look at the tables only at the nodes and positions there are. Assumes nothing.
+-- The laws of the node variables look at the tables only at the nodes and positions there are, and at the rows only for the literals of atoms.
+-- Assumes nothing.
 use mathlib.Core.Path.{_≡_, refl, sym, _∙_, ap}
 use mathlib.Core.Bool.{Bool, true, false}
 use mathlib.Core.List.{List}
-use Prim.Native.Nat.{ℕ, _≤_, _<_}
+use Prim.Native.Nat.{ℕ, _-_, _≤_, _<_, zero-le}
 use native.Mathlib.Omega.{arith}
 use lib.ListN.{length}
 use Rattle.meaning.specs.Problem.{Problem, Node, node, atom, both, either, next, until, release}
-use Rattle.meaning.specs.Proper.{Proper}
+use Rattle.meaning.specs.Formulas.{formula}
 use Rattle.meaning.specs.Bounded.{Shape}
-use Rattle.pairing.specs.NodeLaws.{NodeLaws, at-next, op-value, Q-value}
+use Rattle.meaning.specs.LassoValue.{bounded-value}
+use Rattle.pairing.specs.NodeLaws.{ChildrenEarlier, NodeLaws, at-next, op-value, Q-value}
 use Rattle.pairing.proofs.NextValues.{at-next-same}
-use Rattle.pairing.proofs.NodeValues.{StartWithin, op-same, E-same}
+use Rattle.pairing.proofs.NodeValues.{StartWithin, ZeroFalse, SameAtom, P-of, Q-of, E-of, op-same, E-same, node-laws, node-laws-determine}
+use Rattle.pairing.proofs.Trees.{formula-is}
 
-module _ {p : Problem} (proper : Proper p) {rows rows′ : ℕ → List Bool} {P Q P′ Q′ : ℕ → ℕ → Bool} {E E′ : ℕ → Bool}
-    (same-rows : (i : ℕ) → i ≤ p .bound → rows i ≡ rows′ i)
+module _ {p : Problem} (children : ChildrenEarlier p) (rows rows′ : ℕ → List Bool) {P Q P′ Q′ : ℕ → ℕ → Bool} {E E′ : ℕ → Bool}
+    (same-atoms : (n i : ℕ) → n < length (p .nodes) → i ≤ p .bound → SameAtom rows rows′ (node p n) i)
     (same-P : (n i : ℕ) → n < length (p .nodes) → i ≤ p .bound → P n i ≡ P′ n i)
     (same-Q : (n i : ℕ) → n < length (p .nodes) → i ≤ p .bound → Q n i ≡ Q′ n i)
     (same-E : (n : ℕ) → n < length (p .nodes) → E n ≡ E′ n) where
@@ -22,8 +25,8 @@ module _ {p : Problem} (proper : Proper p) {rows rows′ : ℕ → List Bool} {P
       → ((j : ℕ) → j ≤ p .bound → f j ≡ g j) → e ≡ e′
       → op-value (p .bound) rows P E (node p n) i (at-next (p .bound) f e i) ≡ op-value (p .bound) rows′ P′ E′ (node p n) i (at-next (p .bound) g e′ i)
   op-at-next n i l h f g e e′ same q =
-      op-same p rows rows′ P P′ E E′ n same-rows (λ m j r. same-P m j (omega arith)) (λ m r. same-E m (omega arith))
-      (node p n) (proper .nodes-proper n l) i h _
+      op-same (p .bound) rows rows′ P P′ E E′ n (λ m j r. same-P m j (omega arith)) (λ m r. same-E m (omega arith))
+      (node p n) (children .earlier n l) i h (same-atoms n i l h) _
       ∙ ap (op-value (p .bound) rows′ P′ E′ (node p n) i) (at-next-same (p .bound) f g e e′ same q i)
 
   Q-same : (n i : ℕ) → n < length (p .nodes) → i ≤ p .bound → (x : Node)
@@ -47,3 +50,14 @@ module _ {p : Problem} (proper : Proper p) {rows rows′ : ℕ → List Bool} {P
         ∙ Q-same n i l h (node p n) (λ e. op-at-next n i l h (Q n) (Q′ n) e e (λ j r. same-Q n j l r) refl);
     E-law = λ n l. sym (same-E n l) ∙ laws .E-law n l ∙ E-same p s w (Q n) (Q′ n) (λ j r. same-Q n j l r);
   }
+
+-- So the formula has the same value over rows that give the literals of atoms the same values up to k.
+pub formula-same : {p : Problem} → ChildrenEarlier p → 1 ≤ length (p .nodes) → (s : Shape) → StartWithin s p → (rows rows′ : ℕ → List Bool)
+    → ZeroFalse (p .bound) rows → ZeroFalse (p .bound) rows′
+    → ((n i : ℕ) → n < length (p .nodes) → i ≤ p .bound → SameAtom rows rows′ (node p n) i)
+    → bounded-value s (p .bound) rows (formula p) 0 ≡ bounded-value s (p .bound) rows′ (formula p) 0
+formula-same {p} children some s w rows rows′ zero-false zero-false′ same =
+    let laws : NodeLaws p s rows′ (P-of p s rows) (Q-of p s rows) (E-of p s rows) =
+    node-laws-same children rows rows′ same (λ n i l h. refl) (λ n i l h. refl) (λ n l. refl) w (node-laws children s w rows zero-false) in
+    rw (formula-is p)
+    (node-laws-determine children w laws (node-laws children s w rows′ zero-false′) (length (p .nodes) - 1) 0 (omega arith) zero-le .0)

@@ -23,7 +23,7 @@ use Rattle.pairing.specs.Bytes.{chosen-of, bytes-of-reading}
 use Rattle.pairing.proofs.Meaning.{lasso-value}
 use Rattle.pairing.proofs.Runs.{length-next-values, length-latches}
 use Rattle.pairing.proofs.Witnesses.{value-if-shows}
-use Rattle.pairing.proofs.Trees.{formula-is}
+use Rattle.pairing.proofs.Trees.{children-earlier, formula-is}
 use Rattle.pairing.proofs.Gates.{values-zero-false}
 use Rattle.pairing.proofs.NodeValues.{StartWithin, P-of, Q-of, E-of, node-laws, node-laws-determine, start-within}
 use Rattle.pairing.proofs.SameNodes.{node-laws-same}
@@ -45,7 +45,7 @@ witness-reading p bs = record {
 tables-of-rows : {p : Problem} → Proper p → (bs : List ℕ) → byte bs 0 ≤ p .bound + 1
     → NodeLaws p (shape bs) (rows p bs) (P-of p (shape bs) (rows p bs)) (Q-of p (shape bs) (rows p bs)) (E-of p (shape bs) (rows p bs))
 tables-of-rows {p} proper bs start =
-    node-laws proper (shape bs) (start-within p (byte bs 0) start) (rows p bs) (values-zero-false p (position p bs))
+    node-laws (children-earlier proper) (shape bs) (start-within p (byte bs 0) start) (rows p bs) (λ t h. values-zero-false p (position p bs) t)
 
 -- ════════ A witness's reading keeps the model's laws ════════
 
@@ -62,8 +62,8 @@ module _ (p : Problem) (proper : Proper p) (bs : List ℕ) (w : Witness p bs) (r
 
   nodes-keep : NodeLaws p (shape bs) (row p r) (r .P) (r .Q) (r .E)
   nodes-keep =
-      node-laws-same proper
-      (λ t h. sym (row-of-rows p bs (w .length-right) r same-circuit t h))
+      node-laws-same (children-earlier proper) (rows p bs) (row p r)
+      (λ n t l h x e. ap (λ (vs : List Bool). literal-value vs x) (sym (row-of-rows p bs (w .length-right) r same-circuit t h)))
       (λ n i l h. sym (same .P n i l h)) (λ n i l h. sym (same .Q n i l h)) (λ n l. sym (same .E n l))
       (start-within p (byte bs 0) (w .start-in-range)) (tables-of-rows proper bs (w .start-in-range))
 
@@ -106,7 +106,8 @@ module _ (p : Problem) (proper : Proper p) (r : Reading) (laws : ModelLaws p r) 
   nodes-by-shape : NodeLaws p (shape (bytes-of-reading p r)) (rows p (bytes-of-reading p r)) (r .P) (r .Q) (r .E)
   nodes-by-shape =
       let start = start-within p (byte (bytes-of-reading p r) 0) (bytes-start p r) in
-      node-laws-same proper same-rows (λ n i l h. refl) (λ n i l h. refl) (λ n l. refl) start (record {
+      node-laws-same (children-earlier proper) (row p r) (rows p (bytes-of-reading p r))
+      (λ n t l h x e. ap (λ (vs : List Bool). literal-value vs x) (same-rows t h)) (λ n i l h. refl) (λ n i l h. refl) (λ n l. refl) start (record {
         P-law = laws .P-law;
         Q-law = laws .Q-law;
         E-law = λ n l.
@@ -118,7 +119,7 @@ module _ (p : Problem) (proper : Proper p) (r : Reading) (laws : ModelLaws p r) 
       → let known : Reading = witness-reading p (bytes-of-reading p r) in
       (r .P n i ≡ known .P n i) × (r .Q n i ≡ known .Q n i) × (r .E n ≡ known .E n)
   nodes-by-tables =
-      node-laws-determine proper (start-within p (byte (bytes-of-reading p r) 0) (bytes-start p r)) nodes-by-shape
+      node-laws-determine (children-earlier proper) (start-within p (byte (bytes-of-reading p r) 0) (bytes-start p r)) nodes-by-shape
       (tables-of-rows proper (bytes-of-reading p r) (bytes-start p r))
 
   pub model-agrees : Agree p r (witness-reading p (bytes-of-reading p r))

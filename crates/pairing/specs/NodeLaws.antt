@@ -6,8 +6,22 @@ use Prim.Native.Nat.{ℕ, _+_, _≤_, _<_}
 use lib.Dec.{leb}
 use lib.ListN.{length}
 use Rattle.meaning.specs.Problem.{Problem, Left, Node, node, constant, child, atom, both, either, next, until, release}
+use Rattle.meaning.specs.Proper.{LeftProper}
 use Rattle.meaning.specs.Runs.{literal-value}
 use Rattle.meaning.specs.Bounded.{Shape, prefix, lasso}
+
+-- "Children are earlier node numbers": `NodeProper` without the range of an atom's literal.
+abbrev pub Earlier : ℕ → Node → Type 0
+Earlier n (atom x) = Unit
+Earlier n (both a b) = (a < n) × (b < n)
+Earlier n (either a b) = (a < n) × (b < n)
+Earlier n (next a) = a < n
+Earlier n (until a b) = LeftProper n a × (b < n)
+Earlier n (release a b) = LeftProper n a × (b < n)
+
+-- All that trees, and the laws below, ask of a problem.
+pub record ChildrenEarlier (p : Problem) : Type 0 where
+  pub earlier : (n : ℕ) → n < length (p .nodes) → Earlier n (node p n)
 
 -- The value on the left of U and R.
 abbrev pub left-value : (ℕ → ℕ → Bool) → Left → ℕ → Bool

@@ -13,8 +13,8 @@ const GATE_WORDS: usize = 2;
 
 const NODE_WORDS: usize = 3;
 
-// The reset of a latch that is not there: free.
-const FREE: u32 = 2;
+// "2 for free"; so is a latch that is not there.
+pub const FREE: u32 = 2;
 
 // The word at a place, or 0 past the end.
 pub(crate) fn word_at(words: &[u32], at: usize) -> u32

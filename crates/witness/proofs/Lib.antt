@@ -7,6 +7,8 @@ pub mod NodeTable
 pub mod Passes
 pub mod NodeValues
 pub mod FormulaValue
+pub mod Fits
+pub mod ValueShown
 pub mod Checks
 pub mod ShownRun
 pub mod Judging

@@ -1,6 +1,6 @@
--- Both passes over a node give its laws, and the tables have room for the nodes of a good problem. Assumes nothing.
+-- The end that a pass for Q finds, the row that the pass for P gives, and what the tables hold of nodes that fit. Assumes nothing.
 use mathlib.Core.Path.{_≡_, refl, sym, _∙_, ap}
-use mathlib.Core.Bool.{Bool}
+use mathlib.Core.Bool.{Bool, true, false, _&&_, true≢false}
 use mathlib.Core.List.{List}
 use mathlib.Core.Logic.{_⊎_, inl, inr}
 use Prim.Native.Nat.{ℕ, _+_, _≤_, _<_}
@@ -8,148 +8,161 @@ use native.Mathlib.Nat.{eq-or-lt-of-le}
 use native.Mathlib.Omega.{arith}
 use lib.ListN.{length}
 use Rattle.meaning.specs.Limits.{nodes-limit}
-use Rattle.meaning.specs.Problem.{Problem, Node, node}
-use Rattle.meaning.specs.Proper.{Proper}
-use Rattle.pairing.specs.NodeLaws.{at-next, Q-end}
-use Rattle.pairing.proofs.NextValues.{at-next-same}
+use Rattle.meaning.specs.Problem.{Problem, Node, node, atom, both, either, next, until, release}
+use Rattle.pairing.specs.NodeLaws.{NodeLaws, ChildrenEarlier, at-next, op-value, Q-end, E-value}
+use Rattle.pairing.proofs.NextValues.{same-going-down}
+use Rattle.pairing.proofs.NodeValues.{StartWithin, ZeroFalse, P-of, Q-of, E-of, Q-by-op, op-same, node-laws}
 use Rattle.problem.specs.declared.Outline.{Outline}
-use Rattle.problem.specs.Promise.{problem-in, ProperIn}
+use Rattle.problem.specs.Promise.{problem-in}
 use Rattle.problem.proofs.Outlines.{shows}
 use Rattle.witness.specs.declared.nodes.Span.{Span}
-use Rattle.witness.specs.Tables.{positions-limit, at-node, Q-in, E-in, op-in, shape-in, SpanRight, TablesReady, PassReady, PassWrote, LawsBelow}
-use Rattle.witness.proofs.NodeTable.{Agree, E-agrees, position-within, op-agrees}
-use Rattle.witness.proofs.Passes.{agree-elsewhere}
+use Rattle.witness.specs.Tables.{row-in, at-node, E-in, op-in, goes-on, shape-given, shape-in, SpanRight, TablesReady, PassReady, SameBelow, PassWrote, EndFound, ValuesBelow}
+use Rattle.witness.proofs.NodeTable.{E-agrees, position-within}
 
--- ════════ Laws of the nodes below ════════
+-- ════════ The end ════════
 
-pub agree-through : {n : ℕ} {t u v : List Bool} → Agree n t u → Agree n u v → Agree n t v
-agree-through a b = record {
-  P-agrees = λ c i l h. a .P-agrees c i l h ∙ b .P-agrees c i l h;
-  Q-agrees = λ c i l h. a .Q-agrees c i l h ∙ b .Q-agrees c i l h;
-}
+module _ {span : Span} {rows : List Bool} {n : ℕ} {x : Node} {t : List Bool} where
+  -- By a pass for Q, whose row is the only one that satisfies Q's law.
+  pub end-found : SpanRight span → {u : List Bool} {a b : Bool} → a ≡ Q-end x → PassWrote span rows n x a t u → b ≡ E-in (shape-in span) u n
+      → EndFound span rows n x t u b
+  end-found right {u} {a} a-is wrote b-is = record {
+    below = wrote .below;
+    found = λ goes Q law.
+        b-is
+        ∙ E-agrees span right (at-node u n) Q
+        (same-going-down (span .last) (op-in span rows t x) (at-node u n) Q a (Q-end x) a-is (wrote .own) law);
+  }
 
-pub agree-back : {n : ℕ} {t u : List Bool} → Agree n t u → Agree n u t
-agree-back a = record {
-  P-agrees = λ c i l h. sym (a .P-agrees c i l h);
-  Q-agrees = λ c i l h. sym (a .Q-agrees c i l h);
-}
-
-pub laws-none : {p : Problem} {span : Span} {rows t : List Bool} → LawsBelow p span rows t 0
-laws-none = record {
-  P-law = λ m i l h. absurd (omega arith);
-  Q-law = λ m i l h. absurd (omega arith);
-}
-
-pub laws-at : {p : Problem} {span : Span} {rows t : List Bool} {m n : ℕ} → m ≡ n → LawsBelow p span rows t m → LawsBelow p span rows t n
-laws-at e laws = rw e at laws
-
-module _ {p : Problem} (proper : Proper p) {span : Span} (right : SpanRight span) (last-is : span .last ≡ p .bound) (rows : List Bool) where
-  -- The value of an op with the row that it reads next.
-  next-agrees : {t u : List Bool} {m : ℕ} → Agree m t u → m < length (p .nodes) → (f g : ℕ → Bool) (end end′ : Bool)
-      → ((j : ℕ) → j < positions-limit → f j ≡ g j) → end ≡ end′ → (i : ℕ) → i ≤ span .last
-      → op-in span rows t (node p m) i (at-next (span .last) f end i) ≡ op-in span rows u (node p m) i (at-next (span .last) g end′ i)
-  next-agrees {t} {u} {m} agree l f g end end′ same e i h =
-      op-agrees span right p last-is rows t u m agree (node p m) (proper .nodes-proper m l) i h _
-      ∙ ap (op-in span rows u (node p m) i)
-      (at-next-same (span .last) f g end end′ (λ j r. same j (position-within span right j r)) e i)
-
-  laws-agree : {t u : List Bool} {n : ℕ} → n ≤ length (p .nodes) → Agree n t u → LawsBelow p span rows t n → LawsBelow p span rows u n
-  laws-agree {t} {u} {n} w agree laws = record {
-    P-law = λ m i l h.
-        sym (agree .P-agrees m i l (position-within span right i h))
-        ∙ laws .P-law m i l h
-        ∙ next-agrees (below m l) (omega arith) (at-node t m) (at-node u m) _ _ (λ j r. agree .P-agrees m j l r)
-        (E-agrees span right (Q-in t m) (Q-in u m) (λ j r. agree .Q-agrees m j l r)) i h;
-    Q-law = λ m i l h.
-        sym (agree .Q-agrees m i l (position-within span right i h))
-        ∙ laws .Q-law m i l h
-        ∙ next-agrees (below m l) (omega arith) (Q-in t m) (Q-in u m) _ _ (λ j r. agree .Q-agrees m j l r) refl i h;
+  -- Without one.
+  pub end-unread : span .lasso && goes-on x ≡ false → EndFound span rows n x t t false
+  end-unread unread = record {
+    below = λ c i l h. refl;
+    found = λ goes Q law. go (span .lasso) (rw goes at unread) Q;
   }
     where
-      below : (m : ℕ) → m < n → Agree m t u
-      below m l = record {
-        P-agrees = λ c i r h. agree .P-agrees c i (omega arith) h;
-        Q-agrees = λ c i r h. agree .Q-agrees c i (omega arith) h;
-      }
+      go : (b : Bool) → b && true ≡ false → (Q : ℕ → Bool) → false ≡ E-value (shape-given b (span .start)) Q
+      go false e Q = refl
+      go true e Q = absurd (true≢false e)
 
-  -- The laws of node n, where its two passes lead from t to u and then to v.
-  module _ {t u v : List Bool} (n : ℕ) (there : n < length (p .nodes)) (within : n < nodes-limit)
-      (first : PassWrote span rows (nodes-limit + n) (node p n) (Q-end (node p n)) t u)
-      (second : PassWrote span rows n (node p n) (E-in (shape-in span) u n) u v) where
-    earlier : Agree n u v
-    earlier = agree-back (agree-elsewhere n n v u within (inl refl) (second .others))
+-- ════════ The values of the nodes below ════════
 
-    through : Agree n t v
-    through = agree-through (agree-back (agree-elsewhere n (nodes-limit + n) u t within (inr refl) (first .others))) earlier
+pub values-none : {p : Problem} {span : Span} {rows t : List Bool} → ValuesBelow p span rows t 0
+values-none = record { right = λ m i l h. absurd (omega arith) }
 
-    Q-stays : (j : ℕ) → j < positions-limit → Q-in u n j ≡ Q-in v n j
-    Q-stays j h = sym (second .others (nodes-limit + n) j h (λ e. omega arith))
+pub values-at : {p : Problem} {span : Span} {rows t : List Bool} {m n : ℕ} → m ≡ n → ValuesBelow p span rows t m → ValuesBelow p span rows t n
+values-at e values = rw e at values
 
-    pub laws-more : LawsBelow p span rows t n → LawsBelow p span rows v (n + 1)
-    laws-more laws = record {
-      P-law = λ m i l h. P-at m i (eq-or-lt-of-le {n = m} {m = n} (omega arith)) h;
-      Q-law = λ m i l h. Q-at m i (eq-or-lt-of-le {n = m} {m = n} (omega arith)) h;
-    }
+-- Ops 0 to 3 do not read the node's own next value.
+unread : (k : ℕ) (rows : ℕ → List Bool) (P : ℕ → ℕ → Bool) (E : ℕ → Bool) (x : Node) (i : ℕ) (y z : Bool) → goes-on x ≡ false
+    → op-value k rows P E x i y ≡ op-value k rows P E x i z
+unread k rows P E (atom x) i y z e = refl
+unread k rows P E (both a b) i y z e = refl
+unread k rows P E (either a b) i y z e = refl
+unread k rows P E (next a) i y z e = refl
+unread k rows P E (until a b) i y z e = absurd (true≢false e)
+unread k rows P E (release a b) i y z e = absurd (true≢false e)
+
+-- A loop starts at 0 to k.
+start-right : (p : Problem) {span : Span} → SpanRight span → span .last ≡ p .bound → StartWithin (shape-in span) p
+start-right p {span} right last-is = go (span .lasso) refl
+  where
+    go : (b : Bool) → span .lasso ≡ b → StartWithin (shape-given b (span .start)) p
+    go true e = omega (arith, right .start-within e)
+    go false e = tt
+
+module _ {p : Problem} (children : ChildrenEarlier p) {span : Span} (right : SpanRight span) (last-is : span .last ≡ p .bound) (rows : List Bool)
+    (zero-false : ZeroFalse (p .bound) (row-in rows)) {n : ℕ} (there : n < length (p .nodes)) where
+  abbrev P : ℕ → ℕ → Bool
+  P = P-of p (shape-in span) (row-in rows)
+
+  abbrev E : ℕ → Bool
+  E = E-of p (shape-in span) (row-in rows)
+
+  abbrev step : ℕ → Bool → Bool
+  step = op-value (p .bound) (row-in rows) P E (node p n)
+
+  known : NodeLaws p (shape-in span) (row-in rows) P (Q-of p (shape-in span) (row-in rows)) E
+  known = node-laws children (shape-in span) (start-right p right last-is) (row-in rows) zero-false
+
+  -- Over the rows of the nodes below, the op's value is that of the bounded meaning.
+  op-is : {t : List Bool} → ValuesBelow p span rows t n → (i : ℕ) → i ≤ p .bound → (f : ℕ → Bool) (end : Bool)
+      → op-in span rows t (node p n) i (at-next (span .last) f end i) ≡ step i (at-next (p .bound) f end i)
+  op-is {t} values i h f end =
+      rw last-is
+      (op-same (p .bound) (row-in rows) (row-in rows) (at-node t) P (E-in (shape-in span) t) E n (values .right)
+      (λ c l. E-agrees span right (at-node t c) (P c) (λ j r. values .right c j l (omega arith)))
+      (node p n) (children .earlier n there) i h (λ a e. refl) _)
+
+  same-values : {t u : List Bool} → SameBelow n u t → ValuesBelow p span rows t n → ValuesBelow p span rows u n
+  same-values same values = record { right = λ m i l h. same m i l (position-within span right i (omega arith)) ∙ values .right m i l h }
+
+  module _ {t u v : List Bool} {end : Bool} (ended : EndFound span rows n (node p n) t u end) (passed : PassWrote span rows n (node p n) end u v)
+      (values : ValuesBelow p span rows t n) where
+    abbrev Q : ℕ → Bool
+    Q = Q-of p (shape-in span) (row-in rows) n
+
+    -- Q of the bounded meaning satisfies Q's law.
+    E-is : goes-on (node p n) ≡ true → end ≡ E n
+    E-is goes = ended .found goes Q (λ i h. Q-law i (omega arith)) ∙ sym (known .E-law n there)
       where
-        kept : LawsBelow p span rows v n
-        kept = laws-agree (omega arith) through laws
+        Q-law : (i : ℕ) → i ≤ p .bound → Q i ≡ op-in span rows t (node p n) i (at-next (span .last) Q (Q-end (node p n)) i)
+        Q-law i h =
+            known .Q-law n i there h
+            ∙ Q-by-op (p .bound) (row-in rows) P E Q (node p n) n i _ (known .P-law n i there h)
+            ∙ sym (op-is values i h Q _)
 
-        P-at : (m i : ℕ) → (m ≡ n) ⊎ (m < n) → i ≤ span .last
-            → at-node v m i ≡ op-in span rows v (node p m) i (at-next (span .last) (at-node v m) (E-in (shape-in span) v m) i)
-        P-at m i (inl e) h =
-            rw e
-            (second .own i h
-            ∙ next-agrees earlier there (at-node v n) (at-node v n) _ _ (λ j r. refl) (E-agrees span right (Q-in u n) (Q-in v n) Q-stays) i h)
-        P-at m i (inr l) h = kept .P-law m i l h
+    P-ends : (i : ℕ) → i ≤ p .bound → P n i ≡ step i (at-next (p .bound) (P n) end i)
+    P-ends i h = known .P-law n i there h ∙ go (goes-on (node p n)) refl
+      where
+        go : (b : Bool) → goes-on (node p n) ≡ b → step i (at-next (p .bound) (P n) (E n) i) ≡ step i (at-next (p .bound) (P n) end i)
+        go true e = ap (λ y. step i (at-next (p .bound) (P n) y i)) (sym (E-is e))
+        go false e = unread (p .bound) (row-in rows) P E (node p n) i _ _ e
 
-        Q-at : (m i : ℕ) → (m ≡ n) ⊎ (m < n) → i ≤ span .last
-            → Q-in v m i ≡ op-in span rows v (node p m) i (at-next (span .last) (Q-in v m) (Q-end (node p m)) i)
-        Q-at m i (inl e) h =
-            rw e
-            (sym (Q-stays i (position-within span right i h))
-            ∙ first .own i h
-            ∙ next-agrees through there (Q-in u n) (Q-in v n) _ _ Q-stays refl i h)
-        Q-at m i (inr l) h = kept .Q-law m i l h
+    kept : ValuesBelow p span rows u n
+    kept = same-values (ended .below) values
 
-  -- The same of a node that was read, with the ends that were worked out.
-  pub laws-step : {t u v : List Bool} {n : ℕ} {x : Node} {a b : Bool} → n < length (p .nodes) → n < nodes-limit → x ≡ node p n
-      → a ≡ Q-end x → PassWrote span rows (nodes-limit + n) x a t u → b ≡ E-in (shape-in span) u n → PassWrote span rows n x b u v
-      → LawsBelow p span rows t n → LawsBelow p span rows v (n + 1)
-  laws-step {n = n} there within is a-is first b-is second laws =
-      laws-more n there within (rw (a-is, is) at first) (rw (b-is, is) at second) laws
+    row-is : (i : ℕ) → i ≤ p .bound → at-node v n i ≡ P n i
+    row-is =
+        same-going-down (p .bound) step (at-node v n) (P n) end end refl
+        (λ i h. passed .own i (omega arith) ∙ op-is kept i h (at-node v n) end) P-ends
 
--- ════════ The nodes of a good problem ════════
+    values-more : ValuesBelow p span rows v (n + 1)
+    values-more = record { right = λ m i l h. at m i (eq-or-lt-of-le {n = m} {m = n} (omega arith)) h }
+      where
+        at : (m i : ℕ) → (m ≡ n) ⊎ (m < n) → i ≤ p .bound → at-node v m i ≡ P m i
+        at m i (inl e) h = rw e (row-is i h)
+        at m i (inr l) h = same-values {u = v} (passed .below) kept .right m i l h
 
-module _ {s : Outline} {ws : List ℕ} (good : ProperIn s ws) where
-  pub node-there : {n : ℕ} → n < s .nodes → n < length (problem-in s ws .nodes)
-  node-there l = rw (shows s ws .nodes-are) l
-
-  pub node-within : {n : ℕ} → n < s .nodes → n < nodes-limit
-  node-within l = omega (arith, shows s ws .nodes-are, good .proper .nodes-within)
+-- ════════ Nodes that fit ════════
 
 module _ {s : Outline} {ws : List ℕ} {span : Span} {rows t : List Bool} (tables : TablesReady s ws span rows t) where
-  pub last-right : span .last ≡ problem-in s ws .bound
-  last-right = tables .last-is ∙ sym (shows s ws .bound-is)
+  pub span-right : SpanRight span
+  span-right = record {
+    last-within = omega (arith, tables .last-is, shows s ws .bound-is, tables .given .fit .bound-within);
+    start-within = λ e. rw (tables .last-is) (tables .given .start-within e);
+  }
+
+  pub node-within : {n : ℕ} → n < s .nodes → n < nodes-limit
+  node-within l = omega (arith, shows s ws .nodes-are, tables .given .fit .nodes-within)
 
   pub tables-stay : {u : List Bool} → length u ≡ length t → TablesReady s ws span rows u
-  tables-stay same = record {
-    good = tables .good;
-    span-right = tables .span-right;
-    last-is = tables .last-is;
-    room = tables .room;
-    table-room = same ∙ tables .table-room;
-  }
+  tables-stay same = record { given = tables .given; last-is = tables .last-is; table-room = same ∙ tables .table-room }
 
-  pub pass-ready : {n m : ℕ} {x : Node} → n < s .nodes → x ≡ node (problem-in s ws) n → (m ≡ n) ⊎ (m ≡ nodes-limit + n)
-      → PassReady span rows m x t
-  pass-ready {n} l is own = record {
-    p = problem-in s ws;
-    n = n;
-    span-right = tables .span-right;
-    last-is = last-right;
-    room = tables .room;
-    table-room = tables .table-room;
-    node-within = node-within (tables .good) l;
-    own-row = own;
-    proper = rw is (tables .good .proper .nodes-proper n (node-there (tables .good) l));
-  }
+  module _ {n : ℕ} {x : Node} (l : n < s .nodes) (is : x ≡ node (problem-in s ws) n) where
+    there : n < length (problem-in s ws .nodes)
+    there = rw (shows s ws .nodes-are) l
+
+    pub pass-ready : PassReady span rows n x t
+    pass-ready = record {
+      span-right = span-right;
+      room = tables .given .room;
+      row-there = record { table-room = tables .table-room; node-within = node-within l };
+      earlier = rw is (tables .given .fit .children .earlier n there);
+    }
+
+    -- The node was read, its end found, and its row written.
+    pub values-step : {u v : List Bool} {end : Bool} → EndFound span rows n x t u end → PassWrote span rows n x end u v
+        → ValuesBelow (problem-in s ws) span rows t n → ValuesBelow (problem-in s ws) span rows v (n + 1)
+    values-step ended passed =
+        values-more (tables .given .fit .children) span-right (tables .last-is ∙ sym (shows s ws .bound-is)) rows
+        (λ i h. tables .given .zero-false i (rw (shows s ws .bound-is) at h)) there (rw is at ended) (rw is at passed)

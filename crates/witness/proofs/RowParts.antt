@@ -6,18 +6,20 @@ use Prim.Native.Nat.{ℕ, suc, _+_, _*_, _-_, _<_, _≤_}
 use native.Mathlib.Nat.{mul-suc, mul-le-mul-left}
 use native.Mathlib.Numerals.{add-one}
 use native.Mathlib.Omega.{arith}
-use lib.ListN.{length, take, drop, set, length-drop}
-use lib.Seq.{take-suc-set, take-take, take-append-le, take-append-add, length-take-le}
+use lib.ListN.{length, take, drop, set}
+use lib.Seq.{take-suc-set}
 use Rattle.meaning.specs.Limits.{inputs-limit, latches-limit, gates-limit, bound-limit}
-use Rattle.meaning.specs.Problem.{Problem, W}
-use Rattle.meaning.specs.Runs.{values, with-gates}
-use Rattle.meaning.specs.Witnesses.{bits, inputs-at, position, rows}
+use Rattle.meaning.specs.Problem.{Problem}
+use Rattle.meaning.specs.Runs.{values}
+use Rattle.meaning.specs.Witnesses.{bits, inputs-at, position}
 use Rattle.pairing.proofs.Runs.{position-first, position-inputs, position-next}
 use Rattle.problem.specs.declared.Outline.{Outline}
 use Rattle.problem.specs.Promise.{problem-in}
 use Rattle.problem.proofs.Outlines.{Shows, shows, bound-small}
 use Rattle.witness.specs.Tables.{RowRoom, RowReady, RowsRight, row-width, row-in, given-width, row-latches-from, next-in}
-use Rattle.witness.proofs.RowLaws.{beginning-stays, rows-kept, next-are, one-more-row, put-there, wide-enough}
+use Rattle.witness.specs.Values.{gates-put}
+use Rattle.witness.proofs.RowGates.{gates-there}
+use Rattle.witness.proofs.RowLaws.{beginning-stays, rows-kept, next-are, one-more-row}
 
 -- ════════ Variable 0 and the inputs ════════
 
@@ -99,9 +101,6 @@ module _ {s : Outline} {ws bs : List ℕ} {t : ℕ} {table : List Bool} (ready :
     right = rows-kept (ready .right) long (beginning-stays (t * row-width) (1 + p .inputs) table table₂ _ fits inputs);
   }
 
-  pub row-wide : (table₃ : List Bool) → length table₃ ≡ length table → length (row-in table₃ t) ≡ row-width
-  row-wide table₃ long = length-take-le row-width (drop (t * row-width) table₃) (simp length-drop (omega (arith, row-room)))
-
   -- The row's part of the table is lent to the gates after its inputs and its latches.
   module _ (table₂ table₃ row : List Bool) (long₂ : length table₂ ≡ length table) (long₃ : length table₃ ≡ length table₂)
       (inputs : take (row-latches-from p t) table₂ ≡ take (t * row-width) table ++ false ∷ inputs-at p bs t)
@@ -115,23 +114,11 @@ module _ {s : Outline} {ws bs : List ℕ} {t : ℕ} {table : List Bool} (ready :
         let place : t * row-width + given-width p ≡ row-latches-from p t + s .latches = omega arith in
         rw place (latches ∙ rw (inputs, append-assoc))
 
-    given-in-row : take (given-width p) (row-in table₃ t) ≡ given
-    given-in-row =
-        take-take (given-width p) row-width (drop (t * row-width) table₃) (omega (arith, sizes, row-room))
-        ∙ put-there (t * row-width) (given-width p) table table₃ given fits given-there
-
-    pub row-there : length row ≡ length (row-in table₃ t) → take (W p + 1) row ≡ with-gates (p .gates) (take (given-width p) (row-in table₃ t))
+    pub row-there : row ≡ gates-put (p .gates) (given-width p) (row-in table₃ t)
         → (rest : List Bool) → length (take (t * row-width) table₃ ++ (row ++ rest)) ≡ length table₃
         → RowsRight p bs (t + 1) (take (t * row-width) table₃ ++ (row ++ rest))
     unfolding values
-    row-there wide gates rest long₄ =
+    row-there gates rest long₄ =
         one-more-row (ready .right) (ready .good .proper) (long₄ ∙ long₃ ∙ long₂) position-small
-        (let before : length (take (t * row-width) table₃) ≡ t * row-width = length-take-le (t * row-width) table₃ (omega (arith, fits)) in
-        let same : take (t * row-width) table₃ ≡ take (t * row-width) table =
-        beginning-stays (t * row-width) (given-width p) table table₃ given fits given-there in
-        let width = row-wide table₃ (long₃ ∙ long₂) in
-        let inside : take (W p + 1) (row ++ rest) ≡ rows p bs t =
-        take-append-le (W p + 1) row rest (omega (arith, wide-enough (ready .good .proper)))
-        ∙ gates ∙ rw (given-in-row, position-inputs p bs t (omega (arith, sizes, ready .within))) in
-        rw before at (take-append-add (take (t * row-width) table₃) (row ++ rest) (W p + 1))
-        ∙ rw (same, inside))
+        (gates-there (ready .good .proper) (t * row-width) given table table₃ (row-room .row-there) (long₃ ∙ long₂) given-there row rest gates
+        ∙ rw (position-inputs p bs t (omega (arith, sizes, ready .within))))

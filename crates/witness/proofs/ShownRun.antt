@@ -1,5 +1,5 @@
 -- What the first byte and the table of a shown run say: its shape, and each latch's value and next value. Assumes nothing.
-use mathlib.Core.Path.{_≡_, refl, sym, _∙_, ap, subst}
+use mathlib.Core.Path.{_≡_, refl, sym, _∙_, ap}
 use mathlib.Core.Bool.{Bool, false}
 use mathlib.Core.List.{List}
 use Prim.Native.Nat.{ℕ, zero, suc, _+_, _*_, _-_, _<_, _≤_}
@@ -15,7 +15,7 @@ use Rattle.pairing.proofs.Gates.{values-latch}
 use Rattle.problem.specs.declared.Outline.{Outline}
 use Rattle.problem.specs.Promise.{problem-in}
 use Rattle.problem.proofs.Outlines.{Shows, shows}
-use Rattle.witness.specs.Tables.{RunShown, RowsRight, row-width, row-in}
+use Rattle.witness.specs.Tables.{RunShown, row-width, row-in}
 use Rattle.witness.proofs.RowLaws.{wide-enough, next-value-in}
 
 -- "0 for a prefix or l + 1"
@@ -29,10 +29,6 @@ module _ {s : Outline} {ws bs : List ℕ} {table : List Bool} (run : RunShown s 
 
   sizes : Shows s (problem-in s ws)
   sizes = shows s ws
-
-  -- The table is that of the problem's positions 0..k.
-  pub run-right : RowsRight (problem-in s ws) bs (problem-in s ws .bound + 1) table
-  run-right = subst (λ (k : ℕ). RowsRight (problem-in s ws) bs (k + 1) table) (sym (sizes .bound-is)) (run .right)
 
   -- A latch's value at a position stands in its row.
   pub latch-there : (l i : ℕ) → l ≤ s .bound → i < s .latches

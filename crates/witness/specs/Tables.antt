@@ -1,19 +1,18 @@
--- The local tables of the judge: a row of values for each position, and P, Q, E for each node. Assumes nothing.
+-- The local tables of the judge: a row of values for each position, and one for each node. Assumes nothing.
 use mathlib.Core.Bool.{Bool, true, false}
 use mathlib.Core.List.{List, map}
-use mathlib.Core.Logic.{_⊎_}
 use mathlib.Core.Path.{_≡_}
 use Prim.Native.Nat.{ℕ, suc, _+_, _*_, _<_, _≤_}
 use lib.ListN.{length, getD, take, drop}
 use Rattle.meaning.specs.Limits.{inputs-limit, latches-limit, gates-limit, nodes-limit, bound-limit}
-use Rattle.meaning.specs.Problem.{Problem, Latch, W, Node, node}
-use Rattle.meaning.specs.Proper.{NodeProper}
+use Rattle.meaning.specs.Problem.{Problem, Latch, W, Node, atom, both, either, next, until, release}
 use Rattle.meaning.specs.Runs.{literal-value}
 use Rattle.meaning.specs.Bounded.{Shape, prefix, lasso}
 use Rattle.meaning.specs.Witnesses.{witness-length, byte, rows}
 use Rattle.problem.specs.declared.Outline.{Outline}
 use Rattle.problem.specs.Promise.{problem-in, ProperIn}
-use Rattle.pairing.specs.NodeLaws.{at-next, op-value, Q-end, E-value}
+use Rattle.pairing.specs.NodeLaws.{Earlier, ChildrenEarlier, at-next, op-value, Q-end, E-value}
+use Rattle.pairing.proofs.NodeValues.{P-of}
 use Rattle.witness.specs.declared.nodes.Span.{Span}
 
 -- ════════ The table of rows ════════
@@ -69,6 +68,13 @@ pub record RunShown (s : Outline) (ws bs : List ℕ) (table : List Bool) : Type 
 
 -- ════════ The nodes' table ════════
 
+-- What the passes over the nodes ask of a problem: nodes and positions within their limits, and each child an earlier node.
+pub record NodesFit (p : Problem) : Type 0 where
+  pub nodes-some : 1 ≤ length (p .nodes)
+  pub nodes-within : length (p .nodes) ≤ nodes-limit
+  pub bound-within : p .bound ≤ bound-limit
+  pub children : ChildrenEarlier p
+
 -- A table of a value for each node and position.
 unfoldable pub positions-limit : ℕ
 positions-limit = suc bound-limit
@@ -89,67 +95,78 @@ pub record SpanRight (span : Span) : Type 0 where
   pub last-within : span .last ≤ bound-limit
   pub start-within : span .lasso ≡ true → span .start ≤ span .last
 
--- The rows of Q stand behind those of P.
-abbrev pub Q-in : List Bool → ℕ → ℕ → Bool
-Q-in t n i = at-node t (nodes-limit + n) i
-
--- E is read off Q.
+-- E by a row: the value at the loop's start.
 abbrev pub E-in : Shape → List Bool → ℕ → Bool
-E-in s t n = E-value s (Q-in t n)
+E-in s t n = E-value s (at-node t n)
 
 abbrev pub nodes-room : ℕ
-nodes-room = 2 * nodes-limit * positions-limit
+nodes-room = nodes-limit * positions-limit
+
+-- The table has room, and node n has a row.
+pub record RowThere (t : List Bool) (n : ℕ) : Type 0 where
+  pub table-room : length t ≡ nodes-room
+  pub node-within : n < nodes-limit
 
 -- An op's value over the tables.
 abbrev pub op-in : Span → List Bool → List Bool → Node → ℕ → Bool → Bool
 op-in span rows t x i y = op-value (span .last) (row-in rows) (at-node t) (E-in (shape-in span) t) x i y
 
--- Where the op's value can be read.
-pub record OpReady (span : Span) (rows : List Bool) (i : ℕ) : Type 0 where
+-- U and R alone go by the node's own next value.
+abbrev pub goes-on : Node → Bool
+goes-on (atom x) = false
+goes-on (both a b) = false
+goes-on (either a b) = false
+goes-on (next a) = false
+goes-on (until a b) = true
+goes-on (release a b) = true
+
+-- The op x is over earlier nodes than n, which has a row.
+pub record PassReady (span : Span) (rows : List Bool) (n : ℕ) (x : Node) (t : List Bool) : Type 0 where
   pub span-right : SpanRight span
   pub room : length rows ≡ rows-room
+  pub row-there : RowThere t n
+  pub earlier : Earlier n x
+
+-- Where such an op's value can be read.
+pub record OpReady (span : Span) (rows t : List Bool) (x : Node) (i : ℕ) : Type 0 where
+  pub n : ℕ
+  pub ready : PassReady span rows n x t
   pub position-within : i ≤ span .last
 
--- The op x is over earlier nodes than n of some problem p, and row m is node n's row of P or of Q.
-pub record PassReady (span : Span) (rows : List Bool) (m : ℕ) (x : Node) (t : List Bool) : Type 0 where
-  pub p : Problem
-  pub n : ℕ
-  pub span-right : SpanRight span
-  pub last-is : span .last ≡ p .bound
-  pub room : length rows ≡ rows-room
-  pub table-room : length t ≡ nodes-room
-  pub node-within : n < nodes-limit
-  pub own-row : (m ≡ n) ⊎ (m ≡ nodes-limit + n)
-  pub proper : NodeProper p n x
+-- The rows before n's are the same.
+abbrev pub SameBelow : ℕ → List Bool → List Bool → Type 0
+SameBelow n t u = (c i : ℕ) → c < n → i < positions-limit → at-node t c i ≡ at-node u c i
 
--- A pass gives row m the op's value at each position, over the next one or past the last the end; it changes nothing else.
-pub record PassWrote (span : Span) (rows : List Bool) (m : ℕ) (x : Node) (end : Bool) (t t′ : List Bool) : Type 0 where
-  pub others : (c i : ℕ) → i < positions-limit → (c ≡ m → ⊥) → at-node t′ c i ≡ at-node t c i
-  pub own : (i : ℕ) → i ≤ span .last → at-node t′ m i ≡ op-in span rows t x i (at-next (span .last) (at-node t′ m) end i)
+-- A pass gives row n the op's value at each position, over the next one or past the last the end; the rows before it stay.
+pub record PassWrote (span : Span) (rows : List Bool) (n : ℕ) (x : Node) (end : Bool) (t t′ : List Bool) : Type 0 where
+  pub below : SameBelow n t′ t
+  pub own : (i : ℕ) → i ≤ span .last → at-node t′ n i ≡ op-in span rows t x i (at-next (span .last) (at-node t′ n) end i)
 
--- The laws of P and Q for the nodes below n.
-pub record LawsBelow (p : Problem) (span : Span) (rows t : List Bool) (n : ℕ) : Type 0 where
-  pub P-law : (m i : ℕ) → m < n → i ≤ span .last
-      → at-node t m i ≡ op-in span rows t (node p m) i (at-next (span .last) (at-node t m) (E-in (shape-in span) t m) i)
-  pub Q-law : (m i : ℕ) → m < n → i ≤ span .last
-      → Q-in t m i ≡ op-in span rows t (node p m) i (at-next (span .last) (Q-in t m) (Q-end (node p m)) i)
+-- The end is that of any row that satisfies Q's law, where the op goes on; the rows before n's stay.
+pub record EndFound (span : Span) (rows : List Bool) (n : ℕ) (x : Node) (t t′ : List Bool) (end : Bool) : Type 0 where
+  pub below : SameBelow n t′ t
+  pub found : goes-on x ≡ true → (Q : ℕ → Bool)
+      → ((i : ℕ) → i ≤ span .last → Q i ≡ op-in span rows t x i (at-next (span .last) Q (Q-end x) i)) → end ≡ E-value (shape-in span) Q
 
--- The words are a good problem's, and the tables have room for its nodes.
-pub record TablesReady (s : Outline) (ws : List ℕ) (span : Span) (rows t : List Bool) : Type 0 where
-  pub good : ProperIn s ws
-  pub span-right : SpanRight span
-  pub last-is : span .last ≡ s .bound
-  pub room : length rows ≡ rows-room
-  pub table-room : length t ≡ nodes-room
-
--- Node n is next: those before it have their laws.
-pub record NodeReady (s : Outline) (ws : List ℕ) (span : Span) (rows t : List Bool) (n : ℕ) : Type 0 where
-  pub tables : TablesReady s ws span rows t
-  pub node-there : n < s .nodes
-  pub laws-before : LawsBelow (problem-in s ws) span rows t n
+-- The rows of the nodes below n are the bounded meaning.
+pub record ValuesBelow (p : Problem) (span : Span) (rows t : List Bool) (n : ℕ) : Type 0 where
+  pub right : (m i : ℕ) → m < n → i ≤ p .bound → at-node t m i ≡ P-of p (shape-in span) (row-in rows) m i
 
 -- What the formula's value needs; that the rows are those of a run is left to whoever wants the value to mean something.
 pub record FormulaReady (s : Outline) (ws : List ℕ) (lasso : Bool) (start : ℕ) (rows : List Bool) : Type 0 where
-  pub good : ProperIn s ws
+  pub fit : NodesFit (problem-in s ws)
   pub start-within : lasso ≡ true → start ≤ s .bound
   pub room : length rows ≡ rows-room
+  pub zero-false : (t : ℕ) → t ≤ s .bound → getD (row-in rows t) 0 false ≡ false
+
+-- The same of a span, with a table that has room for the nodes.
+pub record TablesReady (s : Outline) (ws : List ℕ) (span : Span) (rows t : List Bool) : Type 0 where
+  pub given : FormulaReady s ws (span .lasso) (span .start) rows
+  pub last-is : span .last ≡ s .bound
+  pub table-room : length t ≡ nodes-room
+
+-- Node n is next: those before it have their values.
+pub record NodeReady (s : Outline) (ws : List ℕ) (span : Span) (rows t : List Bool) (n : ℕ) : Type 0 where
+  pub tables : TablesReady s ws span rows t
+  pub node-there : n < s .nodes
+  pub values-before : ValuesBelow (problem-in s ws) span rows t n

@@ -11,25 +11,11 @@ use problem::Outline;
 use problem::check::check;
 ghost use mathlib.Core.List.{_++_};
 ghost use mathlib.Core.Path.{_≡_};
-ghost use Rattle.meaning.specs.Formulas.{formula};
-ghost use Rattle.meaning.specs.LassoValue.{bounded-value};
-ghost use Rattle.meaning.specs.Witnesses.{rows, shape, loop-checks, formula-checks};
+ghost use Rattle.meaning.specs.Witnesses.{shape, loop-checks, formula-checks};
 ghost use Rattle.meaning.specs.Calls.{judge-bytes, judge-witness};
 ghost use Rattle.problem.specs.Promise.{problem-in, ProperIn};
 ghost use Rattle.witness.specs.Tables.{RunShown};
 ghost use Rattle.witness.specs.Promise.{AnsweredBy, answer-of};
-
-// The formula's value at 0; the first byte is "0 for a prefix or l + 1".
-fn shown_value(words: &[u32], s: Outline, witness: &[u8], table: &[bool]) -> bool
-    requires { ⌜ RunShown s (now words) (now witness) (now table) ⌝ }
-    ensures { λ r. ⌜ r ≡ bounded-value (shape (now (witness .entry))) (problem-in s (now (words .entry)) .bound) (rows (problem-in s (now (words .entry))) (now (witness .entry))) (formula (problem-in s (now (words .entry)))) 0 ⌝ }
-{
-    let first = witness[0] as usize;
-    if first == 0 {
-        return formula_value(words, s, false, 0, table);
-    }
-    formula_value(words, s, true, first - 1, table)
-}
 
 // 9 and 10, off the table of the run.
 fn shown(words: &[u32], s: Outline, witness: &[u8], table: &[bool]) -> WitnessAnswer
@@ -40,7 +26,8 @@ fn shown(words: &[u32], s: Outline, witness: &[u8], table: &[bool]) -> WitnessAn
     let WitnessAnswer::Yes = by_loop else {
         return by_loop;
     };
-    if !shown_value(words, s, witness, table) {
+    let first = witness[0] as usize;
+    if !formula_value(words, s, first, table) {
         return WitnessAnswer::FormulaFalse;
     }
     WitnessAnswer::Yes

@@ -4,8 +4,8 @@ use problem::Refusal;
 pub mod answer;
 mod bytes;
 pub mod judge;
-mod nodes;
-mod rows;
+pub mod nodes;
+pub mod rows;
 
 // Document 01's answers to a witness; `answer` gives the number and the place of each.
 pub enum WitnessAnswer {

@@ -1,10 +1,13 @@
-// The values of each node at each position, in one table: a row of P for each node, then a row of Q for each.
+// The formula's value over a table of rows, by the values of each node at each position: a row of P for each node. Q is wanted of U and R on a
+// lasso alone; it stands in the node's own row until P does.
 use crate::rows::POSITIONS;
 use crate::rows::ROW_WIDTH;
+use crate::rows::ROWS;
 use crate::rows::literal;
 use problem::Left;
 use problem::Node;
 use problem::Outline;
+use problem::limits::BOUND_LIMIT;
 use problem::limits::NODES_LIMIT;
 use problem::read;
 ghost use mathlib.Core.Bool.{false};
@@ -12,20 +15,23 @@ ghost use mathlib.Core.List.{List};
 ghost use mathlib.Core.Path.{_≡_};
 ghost use Prim.Native.Nat.{ℕ, _+_, _≤_};
 ghost use lib.ListN.{length, getD};
-ghost use Rattle.meaning.specs.Limits.{bound-limit};
+ghost use Rattle.clauses.specs.Lists.{numbers, all-of};
+ghost use Rattle.meaning.specs.Limits.{nodes-limit, bound-limit};
+ghost use Rattle.meaning.specs.Problem.{node};
+ghost use Rattle.meaning.specs.Proper.{LeftProper};
 ghost use Rattle.meaning.specs.Runs.{literal-value};
 ghost use Rattle.meaning.specs.Formulas.{formula};
 ghost use Rattle.meaning.specs.LassoValue.{bounded-value};
-ghost use Rattle.meaning.specs.Witnesses.{rows};
 ghost use Rattle.pairing.specs.NodeLaws.{left-value, at-next, Q-end};
 ghost use Rattle.problem.specs.Promise.{problem-in, left-of, node-read};
-ghost use Rattle.witness.specs.Tables.{RowsRight, SpanRight, OpReady, PassReady, PassWrote, TablesReady, NodeReady, FormulaReady, LawsBelow, row-in, rows-room, at-node, E-in, op-in, shape-in, shape-given};
+ghost use Rattle.witness.specs.Tables.{RowThere, SpanRight, OpReady, PassReady, PassWrote, TablesReady, NodeReady, FormulaReady, EndFound, ValuesBelow, row-in, rows-room, nodes-room, at-node, E-in, op-in, goes-on, shape-in, shape-given};
+ghost use Rattle.witness.specs.Values.{left-earlier, earlier, nodes-fit, rows-fit, value-in};
 
 // As many nodes as document 01's limits allow.
 const NODES: usize = NODES_LIMIT as usize;
 
-// A row of P and one of Q for each node.
-const ENTRIES: usize = 2 * NODES * POSITIONS;
+// A row for each node.
+const ENTRIES: usize = NODES * POSITIONS;
 
 // A run's positions 0..last, and where its loop starts if it has one.
 pub(crate) struct Span {
@@ -43,20 +49,21 @@ fn entry(t: &[bool], at: usize) -> bool
 
 // P of a node at a position.
 fn value_at(t: &[bool], n: u32, i: u32) -> bool
+    requires { ⌜ RowThere (now t) n × (i ≤ bound-limit) ⌝ }
     ensures { λ r. ⌜ r ≡ at-node (now (t .entry)) n i ⌝ }
 {
-    entry(t, (n as usize) * POSITIONS + (i as usize))
+    t[(n as usize) * POSITIONS + (i as usize)]
 }
 
-// E of a node: Q at the loop's start; without a loop it is false.
+// E by a node's row: its value at the loop's start; without a loop it is false.
 fn end_value(t: &[bool], n: u32, span: Span) -> bool
-    requires { ⌜ SpanRight span ⌝ }
+    requires { ⌜ RowThere (now t) n × SpanRight span ⌝ }
     ensures { λ r. ⌜ r ≡ E-in (shape-in span) (now (t .entry)) n ⌝ }
 {
     let lasso = span.lasso;
     let start = span.start;
     if lasso {
-        entry(t, (NODES + (n as usize)) * POSITIONS + start)
+        t[(n as usize) * POSITIONS + start]
     } else {
         false
     }
@@ -64,7 +71,7 @@ fn end_value(t: &[bool], n: u32, span: Span) -> bool
 
 // P of a node at the next position, past the last E.
 fn next_value(t: &[bool], n: u32, span: Span, i: u32) -> bool
-    requires { ⌜ SpanRight span ⌝ }
+    requires { ⌜ RowThere (now t) n × SpanRight span ⌝ }
     ensures { λ r. ⌜ r ≡ at-next (span .last) (at-node (now (t .entry)) n) (E-in (shape-in span) (now (t .entry)) n) i ⌝ }
 {
     let last = span.last;
@@ -77,6 +84,7 @@ fn next_value(t: &[bool], n: u32, span: Span, i: u32) -> bool
 
 // The value on the left of U and R.
 fn left_value(t: &[bool], a: Left, i: u32) -> bool
+    requires { ⌜ (length (now t) ≡ nodes-room) × LeftProper nodes-limit (left-of a) × (i ≤ bound-limit) ⌝ }
     ensures { λ r. ⌜ r ≡ left-value (at-node (now (t .entry))) (left-of a) i ⌝ }
 {
     match a {
@@ -97,7 +105,7 @@ fn atom_value(rows: &[bool], x: u32, i: u32) -> bool
 
 // The op's value at a position, where y is the node's own next value.
 fn op_value(node: Node, span: Span, rows: &[bool], t: &[bool], i: u32, y: bool) -> bool
-    requires { ⌜ OpReady span (now rows) i ⌝ }
+    requires { ⌜ OpReady span (now rows) (now t) (node-read node) i ⌝ }
     ensures { λ r. ⌜ r ≡ op-in span (now (rows .entry)) (now (t .entry)) (node-read node) i y ⌝ }
 {
     match node {
@@ -110,17 +118,18 @@ fn op_value(node: Node, span: Span, rows: &[bool], t: &[bool], i: u32, y: bool) 
     }
 }
 
-// One pass over a node: row m holds the op's value at each position, from the last one down.
-fn pass(node: Node, span: Span, rows: &[bool], m: usize, end: bool, t: &mut [bool])
-    requires { ⌜ PassReady span (now rows) m (node-read node) (now t) ⌝ }
-    ensures { λ r. ⌜ PassWrote span (now (rows .entry)) m (node-read node) end (now (t .entry)) (now (t .exit)) ⌝ }
+// One pass over a node: its row holds the op's value at each position, from the last one down.
+fn pass(node: Node, span: Span, rows: &[bool], n: u32, end: bool, t: &mut [bool])
+    requires { ⌜ PassReady span (now rows) n (node-read node) (now t) ⌝ }
+    ensures { λ r. ⌜ PassWrote span (now (rows .entry)) n (node-read node) end (now (t .entry)) (now (t .exit)) ⌝ }
 {
+    let from = (n as usize) * POSITIONS;
     let mut y = end;
     let mut i = span.last + 1;
     while 0 < i {
         i -= 1;
         y = op_value(node, span, rows, t, i, y);
-        t[m * POSITIONS + (i as usize)] = y;
+        t[from + (i as usize)] = y;
     }
 }
 
@@ -134,20 +143,44 @@ fn second_end(node: Node) -> bool
     }
 }
 
-// Both passes over a node: Q, which gives E, and then P, which past the last position is E.
+// Whether a node's value goes by its own next value.
+fn goes_on(node: Node) -> bool
+    ensures { λ r. ⌜ r ≡ goes-on (node-read node) ⌝ }
+{
+    match node {
+        Node::Until(_, _) => true,
+        Node::Release(_, _) => true,
+        _ => false,
+    }
+}
+
+// E of a node that goes on: on a lasso a pass over its row gives Q first, and Q at the start is E. The others do not read it.
+fn own_end(node: Node, span: Span, rows: &[bool], n: u32, t: &mut [bool]) -> bool
+    requires { ⌜ PassReady span (now rows) n (node-read node) (now t) ⌝ }
+    ensures { λ r. ⌜ EndFound span (now (rows .entry)) n (node-read node) (now (t .entry)) (now (t .exit)) r ⌝ }
+{
+    let lasso = span.lasso;
+    if lasso & goes_on(node) {
+        pass(node, span, rows, n, second_end(node), t);
+        return end_value(t, n, span);
+    }
+    false
+}
+
+// A node's row: P, which past the last position is E.
 fn node_values(words: &[u32], s: Outline, span: Span, rows: &[bool], n: u32, t: &mut [bool])
     requires { ⌜ NodeReady s (now words) span (now rows) (now t) n ⌝ }
-    ensures { λ r. ⌜ LawsBelow (problem-in s (now (words .entry))) span (now (rows .entry)) (now (t .exit)) (n + 1) ⌝ }
+    ensures { λ r. ⌜ ValuesBelow (problem-in s (now (words .entry))) span (now (rows .entry)) (now (t .exit)) (n + 1) ⌝ }
 {
     let node = read::node(words, s, n);
-    pass(node, span, rows, NODES + (n as usize), second_end(node), t);
-    pass(node, span, rows, n as usize, end_value(t, n, span), t);
+    let end = own_end(node, span, rows, n, t);
+    pass(node, span, rows, n, end, t);
 }
 
 // "Children are earlier node numbers": the nodes in order.
 fn all_values(words: &[u32], s: Outline, span: Span, rows: &[bool], t: &mut [bool])
     requires { ⌜ TablesReady s (now words) span (now rows) (now t) ⌝ }
-    ensures { λ r. ⌜ LawsBelow (problem-in s (now (words .entry))) span (now (rows .entry)) (now (t .exit)) (s .nodes) ⌝ }
+    ensures { λ r. ⌜ ValuesBelow (problem-in s (now (words .entry))) span (now (rows .entry)) (now (t .exit)) (s .nodes) ⌝ }
 {
     let mut n: u32 = 0;
     while n < s.nodes {
@@ -156,16 +189,10 @@ fn all_values(words: &[u32], s: Outline, span: Span, rows: &[bool], t: &mut [boo
     }
 }
 
-// "The last node is the formula": its value at position 0, over the rows of a run.
-pub(crate) fn formula_value(
-    words: &[u32],
-    s: Outline,
-    lasso: bool,
-    start: usize,
-    table: &[bool],
-) -> bool
+// The last node's value at position 0, over the rows of a table.
+fn last_value(words: &[u32], s: Outline, lasso: bool, start: usize, table: &[bool]) -> bool
     requires { ⌜ FormulaReady s (now words) lasso start (now table) ⌝ }
-    ensures { λ r. ⌜ ((bs : List ℕ) → RowsRight (problem-in s (now (words .entry))) bs (problem-in s (now (words .entry)) .bound + 1) (now (table .entry)) → r ≡ bounded-value (shape-given lasso start) (problem-in s (now (words .entry)) .bound) (rows (problem-in s (now (words .entry))) bs) (formula (problem-in s (now (words .entry)))) 0) ⌝ }
+    ensures { λ r. ⌜ r ≡ bounded-value (shape-given lasso start) (problem-in s (now (words .entry)) .bound) (row-in (now (table .entry))) (formula (problem-in s (now (words .entry)))) 0 ⌝ }
 {
     let span = Span {
         last: s.bound,
@@ -175,4 +202,89 @@ pub(crate) fn formula_value(
     let mut t = [false; ENTRIES];
     all_values(words, s, span, table, &mut t);
     value_at(&t, s.nodes - 1, 0)
+}
+
+// Whether a node on the left of U or R is before n.
+fn left_earlier(n: u32, a: Left) -> bool
+    ensures { λ r. ⌜ r ≡ left-earlier n (left-of a) ⌝ }
+{
+    match a {
+        Left::Constant(_) => true,
+        Left::Child(c) => c < n,
+    }
+}
+
+// Whether a node's children are before n.
+fn earlier(n: u32, node: Node) -> bool
+    ensures { λ r. ⌜ r ≡ earlier n (node-read node) ⌝ }
+{
+    match node {
+        Node::Atom(_) => true,
+        Node::Both(a, b) => (a < n) & (b < n),
+        Node::Either(a, b) => (a < n) & (b < n),
+        Node::Next(a) => a < n,
+        Node::Until(a, b) => left_earlier(n, a) & (b < n),
+        Node::Release(a, b) => left_earlier(n, a) & (b < n),
+    }
+}
+
+// "Children are earlier node numbers", of every node.
+fn all_earlier(words: &[u32], s: Outline) -> bool
+    ensures { λ r. ⌜ r ≡ all-of (λ n. earlier n (node (problem-in s (now (words .entry))) n)) (numbers 0 (s .nodes)) ⌝ }
+{
+    let mut n: u32 = 0;
+    while n < s.nodes {
+        if !earlier(n, read::node(words, s, n)) {
+            return false;
+        }
+        n += 1;
+    }
+    true
+}
+
+// What the passes ask of the words.
+fn nodes_fit(words: &[u32], s: Outline) -> bool
+    ensures { λ r. ⌜ r ≡ nodes-fit (problem-in s (now (words .entry))) ⌝ }
+{
+    if (1 <= s.nodes) & (s.nodes <= NODES_LIMIT) & (s.bound <= BOUND_LIMIT) {
+        return all_earlier(words, s);
+    }
+    false
+}
+
+// What they ask of the table; variable 0 is the first of a row.
+fn rows_fit(s: Outline, table: &[bool]) -> bool
+    ensures { λ r. ⌜ ((ws : List ℕ) → r ≡ rows-fit (problem-in s ws) (now (table .entry))) ⌝ }
+{
+    if table.len() != ROWS {
+        return false;
+    }
+    let positions = s.bound as usize + 1;
+    let mut t: usize = 0;
+    while t < positions {
+        if entry(table, t * ROW_WIDTH) {
+            return false;
+        }
+        t += 1;
+    }
+    true
+}
+
+// "The last node is the formula": its value at position 0 over a table of rows, for a first byte of a witness; false where words or table do not fit.
+pub fn formula_value(words: &[u32], s: Outline, first: usize, table: &[bool]) -> bool
+    ensures { λ r. ⌜ r ≡ value-in (problem-in s (now (words .entry))) first (now (table .entry)) ⌝ }
+{
+    if !nodes_fit(words, s) {
+        return false;
+    }
+    if s.bound as usize + 1 < first {
+        return false;
+    }
+    if !rows_fit(s, table) {
+        return false;
+    }
+    if first == 0 {
+        return last_value(words, s, false, 0, table);
+    }
+    last_value(words, s, true, first - 1, table)
 }

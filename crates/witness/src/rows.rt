@@ -11,72 +11,106 @@ use problem::read::latch_next;
 ghost use mathlib.Core.Path.{_≡_};
 ghost use mathlib.Core.Bool.{false};
 ghost use mathlib.Core.List.{List, _∷_, _++_};
-ghost use Prim.Native.Nat.{ℕ, _+_, _*_, _/_, _<_, _≤_};
-ghost use lib.ListN.{length, take, drop};
-ghost use Rattle.meaning.specs.Problem.{W, latch, gate};
-ghost use Rattle.meaning.specs.Runs.{literal-value, gate-value, with-gates};
+ghost use Prim.Native.Nat.{ℕ, _+_, _*_, _-_, _<_, _≤_, min};
+ghost use lib.ListN.{length, take, drop, set};
+ghost use Rattle.meaning.specs.Problem.{latch, gate};
+ghost use Rattle.meaning.specs.Runs.{literal-value, gate-value};
 ghost use Rattle.meaning.specs.Witnesses.{bits, witness-length, inputs-at, position};
 ghost use Rattle.problem.specs.Promise.{problem-in, ProperIn};
 ghost use Rattle.witness.specs.Tables.{RowRoom, RowReady, RowsRight, row-width, rows-room, row-in, given-width, row-latches-from, next-in};
+ghost use Rattle.witness.specs.Values.{gates-put};
 
 // A row has a value for each of the variables 0..W, whatever W is, and a table a row for each position.
-pub(crate) const ROW_WIDTH: usize = 1 + (INPUTS_LIMIT + LATCHES_LIMIT + GATES_LIMIT) as usize;
+pub const ROW_WIDTH: usize = 1 + (INPUTS_LIMIT + LATCHES_LIMIT + GATES_LIMIT) as usize;
 
-pub(crate) const POSITIONS: usize = BOUND_LIMIT as usize + 1;
+pub const POSITIONS: usize = BOUND_LIMIT as usize + 1;
 
-pub(crate) const ROWS: usize = POSITIONS * ROW_WIDTH;
+pub const ROWS: usize = POSITIONS * ROW_WIDTH;
 
 // Variable 0 comes before the inputs, and one byte before the latches' bytes.
-pub(crate) const INPUTS_AT: usize = 1;
+pub const INPUTS_AT: usize = 1;
 
-pub(crate) const LATCHES_AT: usize = 1;
+pub const LATCHES_AT: usize = 1;
+
+// How many gates are valued in one turn of the loop over them.
+const TOGETHER: u32 = 8;
 
 // "bytes are 0 or 1"
 pub(crate) const TRUE: u8 = 1;
 
-// The value of a literal whose variable the row has. No branch: nothing foretells a value, and a wrong guess costs more than the value.
-fn literal_within(row: &[bool], x: u32) -> bool
-    requires { ⌜ x / 2 < length (now row) ⌝ }
+// The value of a literal in a row; a variable that the row does not have is false. No branch on a value: nothing foretells it, and a wrong
+// guess costs more than the value.
+pub fn literal(row: &[bool], x: u32) -> bool
     ensures { λ r. ⌜ r ≡ literal-value (now (row .entry)) x ⌝ }
 {
     let v = (x / 2) as usize;
-    row[v] != (x % 2 == 1)
+    let odd = x % 2 == 1;
+    if v < row.len() { row[v] != odd } else { odd }
 }
 
-// The value of a literal in a row; a variable that the row does not have is false.
-pub(crate) fn literal(row: &[bool], x: u32) -> bool
-    ensures { λ r. ⌜ r ≡ literal-value (now (row .entry)) x ⌝ }
-{
-    let v = (x / 2) as usize;
-    if row.len() <= v {
-        return x % 2 == 1;
-    }
-    literal_within(row, x)
-}
-
-// "A gate is the AND of two literals". Whether the words reach past the gates and the row has every variable is the same for every gate, so
-// the test leaves the loop over them; past it the proof stands for every test of a place.
+// "A gate is the AND of two literals". Whether the words reach past the gates is the same for every gate, so the test leaves the loop over
+// them; past it the proof stands for every test of a word's place. Each literal tests its variable's.
 fn gate(words: &[u32], s: Outline, row: &[bool], j: u32) -> bool
-    requires { ⌜ ProperIn s (now words) × (j < s .gates) ⌝ }
+    requires { ⌜ j < s .gates ⌝ }
     ensures { λ r. ⌜ r ≡ gate-value (now (row .entry)) (gate (problem-in s (now (words .entry))) j) ⌝ }
 {
-    if (gate_place(s, s.gates) <= words.len()) & ((s.width as usize) < row.len()) {
+    if gate_place(s, s.gates) <= words.len() {
         let at = gate_place(s, j);
-        return literal_within(row, words[at]) & literal_within(row, words[at + 1]);
+        return literal(row, words[at]) & literal(row, words[at + 1]);
     }
     literal(row, gate_left(words, s, j)) & literal(row, gate_right(words, s, j))
 }
 
-// The gates of a row, each over the variables before it.
-fn gates(words: &[u32], s: Outline, row: &mut [bool])
-    requires { ⌜ ProperIn s (now words) × (length (now row) ≡ row-width) ⌝ }
-    ensures { λ r. ⌜ take (W (problem-in s (now (words .entry))) + 1) (now (row .exit)) ≡ with-gates (problem-in s (now (words .entry)) .gates) (take (given-width (problem-in s (now (words .entry)))) (now (row .entry))) ⌝ }
+// Where the gates of a row begin: after variable 0, the inputs and the latches.
+fn gates_at(s: Outline) -> usize
+    ensures { λ r. ⌜ r ≡ 1 + s .inputs + s .latches ⌝ }
 {
-    let first = INPUTS_AT + (s.inputs + s.latches) as usize;
+    INPUTS_AT + (s.inputs as usize) + (s.latches as usize)
+}
+
+// How many gates have a place in a row of a length.
+fn gates_within(s: Outline, length: usize) -> u32
+    ensures { λ r. ⌜ r ≡ min (s .gates) (length - (1 + s .inputs + s .latches)) ⌝ }
+{
+    let first = gates_at(s);
+    if length <= first {
+        return 0;
+    }
+    let room = length - first;
+    if room < (s.gates as usize) {
+        room as u32
+    } else {
+        s.gates
+    }
+}
+
+// A gate of a row, over the variables before it.
+fn put_gate(words: &[u32], s: Outline, row: &mut [bool], j: u32)
+    requires { ⌜ (j < s .gates) × (1 + s .inputs + s .latches + j < length (now row)) ⌝ }
+    ensures { λ r. ⌜ now (row .exit) ≡ set (now (row .entry)) (given-width (problem-in s (now (words .entry))) + j) (gate-value (now (row .entry)) (gate (problem-in s (now (words .entry))) j)) ⌝ }
+{
+    let at = gates_at(s) + (j as usize);
+    row[at] = gate(words, s, row, j);
+}
+
+// The gates of a row, each over the variables before it; those that the row has no room for are left out. The inner loop has a fixed number
+// of turns, which compiling lays out one after another: what a turn costs beside its gate is then paid once for all of them.
+pub fn gates(words: &[u32], s: Outline, row: &mut [bool])
+    ensures { λ r. ⌜ now (row .exit) ≡ gates-put (problem-in s (now (words .entry)) .gates) (given-width (problem-in s (now (words .entry)))) (now (row .entry)) ⌝ }
+{
+    let count = gates_within(s, row.len());
     let mut j: u32 = 0;
-    while j < s.gates {
-        let at = first + (j as usize);
-        row[at] = gate(words, s, row, j);
+    while TOGETHER <= count - j {
+        let end = j + TOGETHER;
+        let mut i = j;
+        while i < end {
+            put_gate(words, s, row, i);
+            i += 1;
+        }
+        j = end;
+    }
+    while j < count {
+        put_gate(words, s, row, j);
         j += 1;
     }
 }

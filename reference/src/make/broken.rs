@@ -1,4 +1,4 @@
-//! Streams whose last request is too long or cut short.
+//! Streams whose last request is too long, of no known call, or cut short.
 
 use super::T;
 use crate::random::Random;
@@ -31,11 +31,12 @@ fn by_hand(call: u8, parts: &[Part]) -> Vec<u8> {
 fn too_long() -> Vec<Vec<u8>> {
     let mut all = Vec::new();
     for past in [1, 1 << 20, 1 << 30, u32::MAX - 70_000] {
-        for call in [1, 2, 3, 5] {
+        for call in [1, 2, 3, 5, 6] {
             all.push(by_hand(call, &[asked(PROBLEM_WORDS + past)]));
         }
         all.push(by_hand(2, &[whole(8, 4), asked(CNF_WORDS + past)]));
         all.push(by_hand(3, &[whole(8, 4), asked(WITNESS_BYTES + past)]));
+        all.push(by_hand(6, &[whole(8, 4), asked(WITNESS_BYTES + past)]));
         all.push(by_hand(4, &[asked(CNF_WORDS + past)]));
         all.push(by_hand(4, &[whole(8, 4), asked(REFUTATION_WORDS + past)]));
         all.push(by_hand(4, &[whole(8, 4), whole(4, 4), asked(AREA_WORDS + past), asked(9)]));
@@ -50,6 +51,11 @@ fn too_long() -> Vec<Vec<u8>> {
     all.push(by_hand(1, &[whole(PROBLEM_WORDS + 1, 4)]));
     all.push(by_hand(4, &[whole(CNF_WORDS + 1, 4), whole(1, 4), asked(2), asked(2)]));
     all
+}
+
+/// Requests of calls that there are not, told as cut short: all but their first byte is in order.
+fn unknown() -> Vec<Vec<u8>> {
+    [0, 7, 8, 128, 255].map(|call| by_hand(call, &[whole(8, 4), asked(9), asked(9), asked(9)])).to_vec()
 }
 
 /// One whole request of each call.
@@ -67,7 +73,15 @@ fn whole_requests() -> Vec<Vec<u8>> {
             by_numbers: 2,
             by_clauses: 3,
         },
-        Request::Refutation { version, problem, refutation, room: 40, by_numbers: 7, by_clauses: 13 },
+        Request::Refutation {
+            version,
+            problem: problem.clone(),
+            refutation,
+            room: 40,
+            by_numbers: 7,
+            by_clauses: 13,
+        },
+        Request::Find { version, problem, room: 4 },
     ];
     requests.iter().map(Request::bytes).collect()
 }
@@ -79,14 +93,14 @@ pub fn stream(random: &mut Random, number: usize) -> Vec<u8> {
     for _ in 0..random.below(4) {
         bytes.extend(&whole[random.below(whole.len())]);
     }
-    let too_long = too_long();
-    if number < too_long.len() {
-        bytes.extend(&too_long[number]);
+    let wrong = [too_long(), unknown()].concat();
+    if number < wrong.len() {
+        bytes.extend(&wrong[number]);
         bytes.extend(&whole[0]);
         return bytes;
     }
     // The later numbers walk through every place where a request can be cut.
-    let mut place = number - too_long.len();
+    let mut place = number - wrong.len();
     for request in &whole {
         if place < request.len() {
             bytes.extend(&request[..place]);
@@ -99,5 +113,5 @@ pub fn stream(random: &mut Random, number: usize) -> Vec<u8> {
 
 /// How many streams there are.
 pub fn streams() -> usize {
-    too_long().len() + whole_requests().iter().map(Vec::len).sum::<usize>() + 1
+    too_long().len() + unknown().len() + whole_requests().iter().map(Vec::len).sum::<usize>() + 1
 }

@@ -1,5 +1,6 @@
 //! Requests of kind `cases`: the cases T and H of document 01, its thirteen counts, and words with two faults in one part.
 
+use super::find::every_room;
 use super::problems::calls;
 use super::witnesses::every_witness;
 use crate::cnf;
@@ -52,11 +53,8 @@ pub fn counts() -> Vec<(Vec<u32>, usize)> {
 }
 
 /// Two wrong words in one latch, in one gate, in one node: the first of the two decides.
-const TWO_FAULTS: [&[u32]; 3] = [
-    &[0, 1, 0, 1, 0, 9, 9, 0, 2, 0],
-    &[1, 0, 1, 1, 0, 9, 9, 0, 2, 0],
-    &[1, 0, 0, 1, 0, 0, 9, 9],
-];
+const TWO_FAULTS: [&[u32]; 3] =
+    [&[0, 1, 0, 1, 0, 9, 9, 0, 2, 0], &[1, 0, 1, 1, 0, 9, 9, 0, 2, 0], &[1, 0, 0, 1, 0, 0, 9, 9]];
 
 /// T's refutations, the accepted and the refused, as problem and as bare CNF.
 fn case_t(out: &mut Vec<Request>) {
@@ -98,6 +96,10 @@ pub fn requests(random: &mut Random, count: usize) -> Vec<Request> {
             every_witness(random, &words, &mut out);
             calls(random, 1, &words, &mut out);
             calls(random, 2, &words, &mut out);
+            every_room(&words, &mut out);
+        }
+        for words in TWO_FAULTS {
+            every_room(words, &mut out);
         }
     }
     out

@@ -1,5 +1,7 @@
 //! Requests of kind `limits`: problems at each limit and one past it, and the longest buffers.
 
+use super::find::every_room;
+use super::find_limits;
 use super::problems::calls;
 use super::shapes::{most, words, Head};
 use crate::problem::{check, MOST, RELEASE, UNTIL};
@@ -70,10 +72,12 @@ fn each_limit(random: &mut Random, out: &mut Vec<Request>) {
             head[place] = MOST[place] as usize + past;
             let words = words(random, head);
             calls(random, 1, &words, out);
+            every_room(&words, out);
         }
     }
     let none = words(random, [1, 1, 1, 0, 1]);
     calls(random, 1, &none, out);
+    every_room(&none, out);
 }
 
 /// Single words of a problem at all limits set to what is just allowed, just not, and the largest.
@@ -142,6 +146,7 @@ pub fn requests(random: &mut Random, count: usize) -> Vec<Request> {
     largest(&mut out);
     long_refutations(&mut out);
     full_buffers(&mut out);
+    find_limits::requests(&mut out);
     for _ in 0..count {
         each_limit(random, &mut out);
         words_of_largest(random, &mut out);

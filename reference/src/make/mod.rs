@@ -4,6 +4,8 @@ mod bare;
 mod broken;
 mod cases;
 mod damage;
+mod find;
+mod find_limits;
 mod jobs;
 mod limits;
 mod problems;
@@ -16,13 +18,14 @@ use crate::requests::Request;
 
 pub use bare::unsatisfiable;
 pub use broken::streams;
-pub use cases::{counts, T};
+pub use cases::{counter, counts, T};
 pub use damage::{damaged, Of};
+pub use find::subject;
 pub use jobs::job_files;
 pub use limits::all_limits;
 
-/// The requests of a kind. COUNT counts CNFs for `cnf`, problems for `problem`, `witness` and
-/// `refute`, rounds for `limits` and `cases`.
+/// The requests of a kind. COUNT counts CNFs for `cnf`, problems for `problem`, `witness`,
+/// `refute` and `find`, rounds for `limits` and `cases`.
 pub fn requests(seed: u64, kind: &str, count: usize) -> Option<Vec<Request>> {
     let mut random = Random::new(seed);
     let random = &mut random;
@@ -33,6 +36,7 @@ pub fn requests(seed: u64, kind: &str, count: usize) -> Option<Vec<Request>> {
         "witness" => Some(witnesses::requests(random, count)),
         "cases" => Some(cases::requests(random, count)),
         "refute" => Some(refute::requests(random, count)),
+        "find" => Some(find::requests(random, count)),
         _ => None,
     }
 }

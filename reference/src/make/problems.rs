@@ -94,7 +94,7 @@ fn replacements(words: &[u32], place: usize) -> [u32; 4] {
 }
 
 /// One change to good words: a word, the length, or the number of words.
-fn damage(random: &mut Random, words: &mut Vec<u32>) {
+pub fn damage(random: &mut Random, words: &mut Vec<u32>) {
     let place = random.below(words.len());
     match random.below(8) {
         0 => words.push(random.below(3) as u32),

@@ -1,6 +1,7 @@
 //! Random well-formed problems.
 
-use crate::problem::{guard, CHILDREN, MOST};
+use crate::finder::{open_bits, MOST_OPEN};
+use crate::problem::{check, guard, CHILDREN, FINALLY, GLOBALLY, MOST, NEXT};
 use crate::random::Random;
 
 /// The numbers I, L, A, N, k of a problem.
@@ -82,6 +83,76 @@ pub fn looping(random: &mut Random) -> Vec<u32> {
         let op = random.pick(&[1, 2, 3, 3, 4, 4, 5, 5, 6, 6, 6, 7, 7, 7]);
         let second = if CHILDREN[op] == 2 { child(random, n) } else { 0 };
         words.extend([op as u32, child(random, n), second]);
+    }
+    words
+}
+
+/// Leaves just `free` of the latches free, and the others fixed.
+fn free_latches(random: &mut Random, words: &mut [u32], mut free: usize) {
+    let latches = words[1] as usize;
+    for latch in 0..latches {
+        let chosen = random.below(latches - latch) < free;
+        free -= usize::from(chosen);
+        words[6 + 2 * latch] = if chosen { 2 } else { random.below(2) as u32 };
+    }
+}
+
+/// A problem with one of these sums, and some fixed latches beside the free ones.
+pub fn with_sum(random: &mut Random, sums: &[usize]) -> Vec<u32> {
+    let bits = random.pick(sums);
+    // Each bit doubles the candidates, and each position lengthens all of them.
+    let longest = if bits > MOST_OPEN { 31 } else { (8_192 >> bits).clamp(5, 33) - 2 };
+    let most = random.between(0, longest);
+    let k = random.between(0, most);
+    let inputs = random.between(0, bits / (k + 1));
+    let free = bits - inputs * (k + 1);
+    let latches = free + random.pick(&[0, 1, 2, 3, 4, 20]);
+    let head = [inputs, latches, random.below(6), random.between(1, 5), k];
+    let mut words = words(random, head);
+    free_latches(random, &mut words, free);
+    words
+}
+
+/// Latches in a chain, where each takes the value of the one before it: a loop starts only some steps on.
+pub fn chain(random: &mut Random) -> Vec<u32> {
+    let latches = random.between(2, 7);
+    let head = [0, latches, random.below(3), random.between(1, 4), random.between(latches, 12)];
+    let mut words = words(random, head);
+    let free = random.below(3);
+    free_latches(random, &mut words, free);
+    for latch in 0..latches {
+        words[5 + 2 * latch] = 2 * latch.max(1) as u32;
+    }
+    words
+}
+
+/// Any sizes whose sum is past what is searched.
+pub fn far_past(random: &mut Random) -> Vec<u32> {
+    loop {
+        let head =
+            [random.below(65), random.below(65), random.below(4), random.between(1, 3), random.below(32)];
+        let words = words(random, head);
+        if open_bits(&check(1, &words).expect("made well formed")) > MOST_OPEN {
+            return words;
+        }
+    }
+}
+
+/// Puts operators over the formula, the first of them innermost. Under G only a lasso shows it.
+pub fn topped(random: &mut Random, mut words: Vec<u32>) -> Vec<u32> {
+    let tops: [&[u32]; 8] = [
+        &[],
+        &[],
+        &[],
+        &[GLOBALLY],
+        &[GLOBALLY, FINALLY],
+        &[FINALLY, GLOBALLY],
+        &[GLOBALLY, NEXT],
+        &[NEXT, NEXT],
+    ];
+    for &op in random.pick(&tops) {
+        words.extend([op, words[3] - 1, 0]);
+        words[3] += 1;
     }
     words
 }

@@ -1,17 +1,17 @@
--- `all_values` meets its contract: before each turn the nodes passed have their laws. Assumes nothing.
+-- `all_values` meets its contract: before each turn the nodes passed have their values. Assumes nothing.
 use mathlib.Core.Path.{_≡_, refl, _∙_}
 use Prim.Native.Nat.{_≤_, _-_, zero-le}
 use native.Mathlib.Omega.{arith}
 use lib.ListN.{length}
 use Rattle.meaning.specs.Limits.{nodes-limit}
 use Rattle.problem.specs.Promise.{problem-in}
-use Rattle.witness.specs.Tables.{LawsBelow}
-use Rattle.witness.proofs.NodeValues.{laws-none, laws-at, node-within, tables-stay}
+use Rattle.witness.specs.Tables.{ValuesBelow}
+use Rattle.witness.proofs.NodeValues.{values-none, values-at, node-within, tables-stay}
 use Rattle.witness.proofs.nodes.all_values.Statement.{statement}
 use Rattle.witness.proofs.nodes.all_values.Tie as tie
 
 abbrev Inv-loop : tie.InvT-loop
-Inv-loop words s span rows t₀ n₀ t n = (n ≤ s .nodes) × (length t ≡ length t₀) × LawsBelow (problem-in s words) span rows t n
+Inv-loop words s span rows t₀ n₀ t n = (n ≤ s .nodes) × (length t ≡ length t₀) × ValuesBelow (problem-in s words) span rows t n
 
 abbrev μ-loop : tie.MeasureT-loop
 μ-loop words s span rows t₀ n₀ t n = s .nodes - n
@@ -33,7 +33,7 @@ values-of c = c .before .before
 -- ════════ The needs ════════
 
 loop-holds : tie.Need-loop-holds Inv-loop μ-loop
-loop-holds c = (zero-le, refl, laws-none)
+loop-holds c = (zero-le, refl, values-none)
 
 node-values-requires : tie.Need-node-values-requires Inv-loop μ-loop
 node-values-requires c κs =
@@ -41,14 +41,14 @@ node-values-requires c κs =
     record {
       tables = tables-stay (start l .pre) (l .loop .inv .1);
       node-there = c .before .if1 .taken;
-      laws-before = l .loop .inv .2;
+      values-before = l .loop .inv .2;
     }
 
 add-n : tie.Need-add-n Inv-loop μ-loop
 unfolding nodes-limit
 add-n c =
     let t = turn (values-of c) in
-    omega (arith, node-within (start (loop-of t) .pre .good) (t .if1 .taken))
+    omega (arith, node-within (start (loop-of t) .pre) (t .if1 .taken))
 
 loop-less : tie.Need-loop-less Inv-loop μ-loop
 loop-less c = omega (arith, turn (values-of c) .if1 .taken)
@@ -68,7 +68,7 @@ returns : tie.Need-returns Inv-loop μ-loop
 returns c =
     let l = c .before .before in
     let all : l .loop .n ≡ start l .args .s .nodes = omega (arith, l .loop .inv .0, c .if1 .left) in
-    laws-at all (l .loop .inv .2)
+    values-at all (l .loop .inv .2)
 
 pub all-values-spec : {M : Type 1} → statement M
 all-values-spec =

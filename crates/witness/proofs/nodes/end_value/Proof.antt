@@ -1,31 +1,34 @@
--- `end_value` meets its contract: a loop's start is a position, so its place fits. Assumes nothing.
+-- `end_value` meets its contract: a loop's start is a position, so its place is in the table. Assumes nothing.
+use Prim.Native.Nat.{_≤_}
 use native.Mathlib.Omega.{arith}
 use borrow.Author.Needs.{needs}
-use Rattle.meaning.specs.Limits.{nodes-limit, bound-limit}
+use Rattle.meaning.specs.Limits.{bound-limit}
 use Rattle.witness.specs.Tables.{positions-limit}
+use Rattle.witness.proofs.NodeTable.{place-within}
 use Rattle.witness.proofs.nodes.end_value.Statement.{statement}
 use Rattle.witness.proofs.nodes.end_value.Tie as tie
 
-add-entry : tie.Need-add-entry
-add-entry c = search needs
+start-within : (c : tie.Then1) → c .before .args .span .start ≤ bound-limit
+start-within c = let right = c .before .pre .1 in omega (arith, right .start-within (c .if1 .taken), right .last-within)
 
-mul-entry : tie.Need-mul-entry
-mul-entry c = search needs
+mul-result : tie.Need-mul-result
+mul-result c = search needs
 
-add-entry-2 : tie.Need-add-entry-2
+add-result : tie.Need-add-result
 unfolding bound-limit
-add-entry-2 c = omega (arith, c .before .before .pre .start-within (c .if1 .taken))
+add-result c = omega (arith, start-within c)
 
-entry-requires : tie.Need-entry-requires
-entry-requires c κs = search needs
+shared-slice-read-result : tie.Need-shared-slice-read-result
+unfolding positions-limit bound-limit
+shared-slice-read-result c = place-within (c .before .before .pre .0) (start-within (c .before))
 
 returns : tie.Need-returns
-unfolding nodes-limit positions-limit bound-limit
-returns c = rw (c .before .if1 .taken) (c .entry .ensures)
+unfolding positions-limit bound-limit
+returns c = rw (c .before .if1 .taken)
 
 returns-2 : tie.Need-returns-2
 returns-2 c = search needs
 
 pub end-value-spec : {M : Type 1} → statement M
 end-value-spec =
-    tie.close (tie.spec add-entry mul-entry add-entry-2 entry-requires returns returns-2)
+    tie.close (tie.spec mul-result add-result shared-slice-read-result returns returns-2)

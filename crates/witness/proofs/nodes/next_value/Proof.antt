@@ -2,6 +2,7 @@
 use borrow.Author.Needs.{needs}
 use borrow.Author.Tests.{le-leb, lt-leb}
 use native.Mathlib.Nat.{lt-of-le-of-lt}
+use native.Mathlib.Omega.{arith}
 use native.Mathlib.Numerals.{add-one-le, lt-add-one}
 use Rattle.witness.proofs.nodes.next_value.Statement.{statement}
 use Rattle.witness.proofs.nodes.next_value.Tie as tie
@@ -10,7 +11,9 @@ add-value-at : tie.Need-add-value-at
 add-value-at c = search needs
 
 value-at-requires : tie.Need-value-at-requires
-value-at-requires c κs = search needs
+value-at-requires c κs =
+    let pre = c .before .before .pre in
+    (pre .0, omega (arith, c .if1 .taken, pre .1 .last-within))
 
 end-value-requires : tie.Need-end-value-requires
 end-value-requires c κs = search needs

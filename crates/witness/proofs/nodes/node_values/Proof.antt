@@ -1,9 +1,6 @@
--- `node_values` meets its contract: the first pass gives Q, and with it E, the second P. Assumes nothing.
-use mathlib.Core.Path.{refl}
-use mathlib.Core.Logic.{inl, inr}
+-- `node_values` meets its contract: the node's end, and from it down its row. Assumes nothing.
 use borrow.Author.Needs.{needs}
-use Rattle.meaning.specs.Limits.{nodes-limit}
-use Rattle.witness.proofs.NodeValues.{laws-step, node-there, node-within, last-right, tables-stay, pass-ready}
+use Rattle.witness.proofs.NodeValues.{tables-stay, pass-ready, values-step}
 use Rattle.witness.proofs.nodes.node_values.Statement.{statement}
 use Rattle.witness.proofs.nodes.node_values.Tie as tie
 
@@ -12,68 +9,39 @@ use Rattle.witness.proofs.nodes.node_values.Tie as tie
 abbrev start : tie.After-node → tie.Start
 start c = c .before .before .before .before
 
-abbrev read-of : tie.After-pass → tie.After-node
-read-of c = c .before .before .before
+abbrev read-of : tie.After-own-end → tie.After-node
+read-of c = c .before .before
 
-abbrev first-of : tie.After-end-value → tie.After-pass
-first-of c = c .before .before .before .before
-
-abbrev second-of : tie.After-slice-known3 → tie.After-pass2
-second-of c = c .before .before
+abbrev end-of : tie.After-pass-arg → tie.After-own-end
+end-of c = c .before .before .before
 
 -- ════════ The needs ════════
 
 node-requires : tie.Need-node-requires
 node-requires c κs = search needs
 
-add-pass : tie.Need-add-pass
-add-pass c = search needs
-
-second-end-requires : tie.Need-second-end-requires
-second-end-requires c κs = search needs
+own-end-requires : tie.Need-own-end-requires
+own-end-requires c κs =
+    let pre = start (c .before) .pre in
+    pass-ready (pre .tables) (pre .node-there) (c .before .node .ensures)
 
 pass-requires : tie.Need-pass-requires
-unfolding nodes-limit
 pass-requires c κs =
-    let read = c .before .before in
-    let pre = start read .pre in
-    pass-ready (pre .tables) (pre .node-there) (read .node .ensures) (inr refl)
-
-end-value-requires : tie.Need-end-value-requires
-end-value-requires c κs = search needs
-
-pass-requires-2 : tie.Need-pass-requires-2
-pass-requires-2 c κs =
-    let first = first-of (c .before) in
-    let read = read-of first in
-    let pre = start read .pre in
-    pass-ready (tables-stay (pre .tables) (first .pass .kept .1 .1 .1 .1 .1 .0)) (pre .node-there) (read .node .ensures) (inl refl)
+    let end = end-of c in
+    let pre = start (read-of end) .pre in
+    pass-ready (tables-stay (pre .tables) (end .own-end .kept .1 .1 .1 .1 .0)) (pre .node-there) (read-of end .node .ensures)
 
 same-length : tie.Need-same-length
 same-length c = search needs
 
 returns : tie.Need-returns
-unfolding nodes-limit
 returns c =
-    let second = second-of c in
-    let ends = second .before .before in
-    let first = first-of ends in
-    let read = read-of first in
-    let pre = start read .pre in
-    let good = pre .tables .good in
-    laws-step (good .proper) (pre .tables .span-right) (last-right (pre .tables)) _ (node-there good (pre .node-there)) (node-within good (pre .node-there))
-    (read .node .ensures) (first .before .before .second-end .ensures) (first .pass .ensures) (ends .end-value .ensures) (second .pass2 .ensures)
-    (pre .laws-before)
+    let passed = c .before .before in
+    let end = end-of (passed .before) in
+    let pre = start (read-of end) .pre in
+    values-step (pre .tables) (pre .node-there) (read-of end .node .ensures) (end .own-end .ensures) (passed .pass .ensures) (pre .values-before)
 
 pub node-values-spec : {M : Type 1} → statement M
 node-values-spec =
     tie.close
-    (tie.spec
-    node-requires
-    add-pass
-    second-end-requires
-    pass-requires
-    end-value-requires
-    pass-requires-2
-    same-length
-    returns)
+    (tie.spec node-requires own-end-requires pass-requires same-length returns)

@@ -1,7 +1,23 @@
 -- `op_value` meets its contract: each arm is its op. Assumes nothing.
+use mathlib.Core.Path.{_≡_, subst}
 use borrow.Author.Needs.{needs}
+use Rattle.problem.specs.declared.Node.{Node}
+use Rattle.problem.specs.Promise.{left-of, node-read}
+use Rattle.pairing.specs.NodeLaws.{Earlier}
+use Rattle.witness.proofs.NodeTable.{child-there, left-there}
 use Rattle.witness.proofs.nodes.op_value.Statement.{statement}
 use Rattle.witness.proofs.nodes.op_value.Tie as tie
+
+-- ════════ The points ════════
+
+abbrev start : tie.After-shared-slice-known2 → tie.Start
+start c = c .before .before
+
+-- The children of the op that the node is.
+children : (c : tie.Start) {x : Node} → c .args .node ≡ x → Earlier (c .pre .n) (node-read x)
+children c e = subst (λ (x : Node). Earlier (c .pre .n) (node-read x)) e (c .pre .ready .earlier)
+
+-- ════════ The needs ════════
 
 enum-known-node : tie.Need-enum-known-node
 enum-known-node c = search needs
@@ -13,43 +29,70 @@ enum-known-node-2 : tie.Need-enum-known-node-2
 enum-known-node-2 c = search needs
 
 value-at-requires : tie.Need-value-at-requires
-value-at-requires c κs = search needs
+value-at-requires c κs =
+    let x = c .before in
+    let s = start (x .before .before) in
+    child-there (s .pre) (children s (x .node2 .given .1) .0)
 
 value-at-requires-2 : tie.Need-value-at-requires-2
-value-at-requires-2 c κs = search needs
+value-at-requires-2 c κs =
+    let x = c .before .before in
+    let s = start (x .before .before) in
+    child-there (s .pre) (children s (x .node2 .given .1) .1)
 
 enum-known-node-3 : tie.Need-enum-known-node-3
 enum-known-node-3 c = search needs
 
 value-at-requires-3 : tie.Need-value-at-requires-3
-value-at-requires-3 c κs = search needs
+value-at-requires-3 c κs =
+    let x = c .before in
+    let s = start (x .before .before) in
+    child-there (s .pre) (children s (x .node3 .given .1) .0)
 
 value-at-requires-4 : tie.Need-value-at-requires-4
-value-at-requires-4 c κs = search needs
+value-at-requires-4 c κs =
+    let x = c .before .before in
+    let s = start (x .before .before) in
+    child-there (s .pre) (children s (x .node3 .given .1) .1)
 
 enum-known-node-4 : tie.Need-enum-known-node-4
 enum-known-node-4 c = search needs
 
 next-value-requires : tie.Need-next-value-requires
-next-value-requires c κs = search needs
+next-value-requires c κs =
+    let x = c .before in
+    let s = start (x .before .before) in
+    (child-there (s .pre) (children s (x .node4 .given .1)) .0, s .pre .ready .span-right)
 
 enum-known-node-5 : tie.Need-enum-known-node-5
 enum-known-node-5 c = search needs
 
 value-at-requires-5 : tie.Need-value-at-requires-5
-value-at-requires-5 c κs = search needs
+value-at-requires-5 c κs =
+    let x = c .before in
+    let s = start (x .before .before) in
+    child-there (s .pre) (children s (x .node5 .given .1) .1)
 
 left-value-requires : tie.Need-left-value-requires
-left-value-requires c κs = search needs
+left-value-requires c κs =
+    let x = c .before .before in
+    let s = start (x .before .before) in
+    left-there (s .pre) (left-of (x .node5 .given .0 .0)) (children s (x .node5 .given .1) .0)
 
 enum-known-node-6 : tie.Need-enum-known-node-6
 enum-known-node-6 c = search needs
 
 value-at-requires-6 : tie.Need-value-at-requires-6
-value-at-requires-6 c κs = search needs
+value-at-requires-6 c κs =
+    let x = c .before in
+    let s = start (x .before .before) in
+    child-there (s .pre) (children s (x .node6 .given .1) .1)
 
 left-value-requires-2 : tie.Need-left-value-requires-2
-left-value-requires-2 c κs = search needs
+left-value-requires-2 c κs =
+    let x = c .before .before in
+    let s = start (x .before .before) in
+    left-there (s .pre) (left-of (x .node6 .given .0 .0)) (children s (x .node6 .given .1) .0)
 
 returns : tie.Need-returns
 returns c = rw (c .before .before .node .given .1) (c .atom-value .ensures)

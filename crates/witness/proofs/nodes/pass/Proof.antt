@@ -5,15 +5,16 @@ use native.Mathlib.Omega.{arith}
 use Rattle.meaning.specs.Limits.{nodes-limit, bound-limit}
 use Rattle.problem.specs.Promise.{node-read}
 use Rattle.witness.specs.Tables.{positions-limit}
-use Rattle.witness.proofs.Passes.{Passing, passing-none, passing-at, passing-more, passed, row-within, place-within}
+use Rattle.witness.proofs.NodeTable.{place-within}
+use Rattle.witness.proofs.Passes.{Passing, passing-none, passing-at, passing-more, passed, ready-still}
 use Rattle.witness.proofs.nodes.pass.Statement.{statement}
 use Rattle.witness.proofs.nodes.pass.Tie as tie
 
 abbrev Inv-loop : tie.InvT-loop
-Inv-loop node span rows m end t₀ y₀ i₀ t y i = Passing span rows m (node-read node) end t₀ t y i
+Inv-loop node span rows n end t₀ from y₀ i₀ t y i = Passing span rows n (node-read node) end t₀ t y i
 
 abbrev μ-loop : tie.MeasureT-loop
-μ-loop node span rows m end t₀ y₀ i₀ t y i = i
+μ-loop node span rows n end t₀ from y₀ i₀ t y i = i
 
 -- ════════ The points ════════
 
@@ -24,6 +25,10 @@ abbrev loop-of : tie.After-op-value Inv-loop μ-loop → tie.At-loop Inv-loop μ
 loop-of c = c .before .before .before
 
 -- ════════ The needs ════════
+
+mul-from : tie.Need-mul-from Inv-loop μ-loop
+unfolding nodes-limit
+mul-from c = omega (arith, c .before .before .pre .row-there .node-within)
 
 add-i : tie.Need-add-i Inv-loop μ-loop
 unfolding bound-limit
@@ -38,31 +43,24 @@ sub-i c = omega arith
 op-value-requires : tie.Need-op-value-requires Inv-loop μ-loop
 op-value-requires c κs =
     let l = c .before .before in
-    record {
-      span-right = start l .pre .span-right;
-      room = start l .pre .room;
-      position-within = omega (arith, l .loop .inv .below);
-    }
-
-mul-t : tie.Need-mul-t Inv-loop μ-loop
-unfolding nodes-limit
-mul-t c = omega (arith, row-within (start (loop-of c) .pre))
+    record { n = _; ready = ready-still (start l .pre) (l .loop .inv .same-length); position-within = omega (arith, l .loop .inv .left) }
 
 cast-t : tie.Need-cast-t Inv-loop μ-loop
 unfolding bound-limit
-cast-t c = let l = loop-of c in omega (arith, l .loop .inv .below, start l .pre .span-right .last-within)
+cast-t c = let l = loop-of c in omega (arith, l .loop .inv .left, start l .pre .span-right .last-within)
 
 add-t : tie.Need-add-t Inv-loop μ-loop
 unfolding nodes-limit bound-limit
 add-t c =
     let l = loop-of c in
-    omega (arith, row-within (start l .pre), l .loop .inv .below, start l .pre .span-right .last-within)
+    omega (arith, start l .pre .row-there .node-within, l .loop .inv .left, start l .pre .span-right .last-within)
 
 slice-write-t : tie.Need-slice-write-t Inv-loop μ-loop
 unfolding positions-limit bound-limit
 slice-write-t c =
     let l = loop-of c in
-    place-within (start l .pre) (l .loop .t) _ (l .loop .inv .same-length) (omega (arith, l .loop .inv .below))
+    place-within {t = l .loop .t} (ready-still (start l .pre) (l .loop .inv .same-length) .row-there)
+    (omega (arith, l .loop .inv .left, start l .pre .span-right .last-within))
 
 loop-less : tie.Need-loop-less Inv-loop μ-loop
 loop-less c = omega arith
@@ -87,11 +85,11 @@ pass-spec =
     (tie.spec
     Inv-loop
     μ-loop
+    mul-from
     add-i
     loop-holds
     sub-i
     op-value-requires
-    mul-t
     cast-t
     add-t
     slice-write-t

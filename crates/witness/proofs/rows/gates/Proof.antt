@@ -1,117 +1,158 @@
--- `gates` meets its contract: before each turn the gates passed stand there. Assumes nothing.
-use mathlib.Core.Path.{_≡_}
-use Prim.Native.Nat.{_-_, _+_, _≤_}
+-- `gates` meets its contract: before each turn the gates passed stand there, and the turns end where the gates or the row do. Assumes nothing.
+use mathlib.Core.Bool.{Bool}
+use mathlib.Core.List.{List}
+use mathlib.Core.Path.{refl}
+use Prim.Native.Nat.{ℕ, _-_, _≤_}
 use native.Mathlib.Omega.{arith}
-use Rattle.meaning.specs.Limits.{inputs-limit, latches-limit, gates-limit}
+use borrow.Author.Needs.{needs}
 use Rattle.meaning.specs.Problem.{Problem}
+use Rattle.problem.specs.declared.Outline.{Outline}
 use Rattle.problem.specs.Promise.{problem-in}
 use Rattle.problem.proofs.Outlines.{Shows, shows}
-use Rattle.witness.specs.Tables.{row-width, given-width}
-use Rattle.witness.proofs.RowGates.{GatesTo, no-gates, one-gate, all-gates}
+use Rattle.witness.specs.Tables.{given-width}
+use Rattle.witness.proofs.RowGates.{GatesTo, no-gates, one-gate, more-gates, all-gates}
 use Rattle.witness.proofs.rows.gates.Statement.{statement}
 use Rattle.witness.proofs.rows.gates.Tie as tie
 
+-- Of the row where a loop begins with gate j₀, the gates up to j are put.
+abbrev Put : Outline → List ℕ → ℕ → List Bool → ℕ → List Bool → Type 0
+Put s words j₀ row₀ j row = let p : Problem = problem-in s words in GatesTo (p .gates) (given-width p) j₀ row₀ j row
+
+abbrev Inv-loop2 : tie.InvT-loop2
+Inv-loop2 words s row₀ count j end i₀ row i = (i ≤ end) × Put s words j row₀ i row
+
+abbrev μ-loop2 : tie.MeasureT-loop2
+μ-loop2 words s row₀ count j end i₀ row i = end - i
+
 abbrev Inv-loop : tie.InvT-loop
-Inv-loop words s row₀ first j₀ row j = (j ≤ s .gates) × GatesTo (problem-in s words) row₀ j row
+Inv-loop words s row₀ count j₀ row j = (j ≤ count) × Put s words j₀ row₀ j row
 
 abbrev μ-loop : tie.MeasureT-loop
-μ-loop words s row₀ first j₀ row j = s .gates - j
+μ-loop words s row₀ count j₀ row j = count - j
+
+abbrev Inv-loop3 : tie.InvT-loop3
+Inv-loop3 words s row₀ count j₀ row j = (j ≤ count) × Put s words j₀ row₀ j row
+
+abbrev μ-loop3 : tie.MeasureT-loop3
+μ-loop3 words s row₀ count j₀ row j = count - j
 
 -- ════════ The points ════════
 
-abbrev start : tie.After-struct-known Inv-loop μ-loop → tie.Start Inv-loop μ-loop
-start c = c .before .before .before
+abbrev start : tie.At-loop Inv-loop2 μ-loop2 Inv-loop μ-loop Inv-loop3 μ-loop3 → tie.Start Inv-loop2 μ-loop2 Inv-loop μ-loop Inv-loop3 μ-loop3
+start c = c .before .before .before .before
 
-abbrev loop-of : tie.Then1 Inv-loop μ-loop → tie.At-loop Inv-loop μ-loop
-loop-of c = c .before .before
+abbrev turn : tie.At-loop2 Inv-loop2 μ-loop2 Inv-loop μ-loop Inv-loop3 μ-loop3 → tie.At-loop Inv-loop2 μ-loop2 Inv-loop μ-loop Inv-loop3 μ-loop3
+turn c = c .before .before
 
-abbrev turn : tie.After-gate Inv-loop μ-loop → tie.At-loop Inv-loop μ-loop
-turn c = loop-of (c .before .before)
+abbrev last : tie.At-loop3 Inv-loop2 μ-loop2 Inv-loop μ-loop Inv-loop3 μ-loop3 → tie.At-loop Inv-loop2 μ-loop2 Inv-loop μ-loop Inv-loop3 μ-loop3
+last c = c .before .before
 
-abbrev problem-at : tie.Start Inv-loop μ-loop → Problem
-problem-at c = problem-in (c .args .s) (c .args .words .now)
+sizes : (c : tie.At-loop Inv-loop2 μ-loop2 Inv-loop μ-loop Inv-loop3 μ-loop3)
+    → Shows (start c .args .s) (problem-in (start c .args .s) (start c .args .words .now))
+sizes c = shows (start c .args .s) (start c .args .words .now)
 
-sizes : (c : tie.Start Inv-loop μ-loop) → Shows (c .args .s) (problem-at c)
-sizes c = shows (c .args .s) (c .args .words .now)
+-- The gates passed before the last turns, and in them.
+passed : (c : tie.At-loop3 Inv-loop2 μ-loop2 Inv-loop μ-loop Inv-loop3 μ-loop3)
+    → Put (start (last c) .args .s) (start (last c) .args .words .now) 0 (start (last c) .args .row .now) (c .loop3 .j) (c .loop3 .row)
+passed c = more-gates (last c .loop .inv .1) (c .loop3 .inv .1) refl
 
 -- ════════ The needs ════════
 
-add-first : tie.Need-add-first Inv-loop μ-loop
-unfolding inputs-limit latches-limit gates-limit
-add-first c = let z = sizes (start c) in omega arith
+gates-within-requires : tie.Need-gates-within-requires Inv-loop2 μ-loop2 Inv-loop μ-loop Inv-loop3 μ-loop3
+gates-within-requires c κs = search needs
 
-cast-first : tie.Need-cast-first Inv-loop μ-loop
-unfolding inputs-limit latches-limit gates-limit
-cast-first c = let z = sizes (start c) in omega arith
-
-add-first-2 : tie.Need-add-first-2 Inv-loop μ-loop
-unfolding inputs-limit latches-limit gates-limit
-add-first-2 c = let z = sizes (start c) in omega arith
-
-loop-holds : tie.Need-loop-holds Inv-loop μ-loop
+loop-holds : tie.Need-loop-holds Inv-loop2 μ-loop2 Inv-loop μ-loop Inv-loop3 μ-loop3
 loop-holds c = (omega arith, no-gates)
 
-cast-at : tie.Need-cast-at Inv-loop μ-loop
-unfolding gates-limit
-cast-at c = let z = sizes (start (loop-of c .before)) in omega arith
+sub-loop : tie.Need-sub-loop Inv-loop2 μ-loop2 Inv-loop μ-loop Inv-loop3 μ-loop3
+sub-loop c = omega arith
 
-add-at : tie.Need-add-at Inv-loop μ-loop
-unfolding inputs-limit latches-limit gates-limit
-add-at c = let z = sizes (start (loop-of c .before)) in omega arith
+add-end : tie.Need-add-end Inv-loop2 μ-loop2 Inv-loop μ-loop Inv-loop3 μ-loop3
+add-end c = omega arith
 
-gate-requires : tie.Need-gate-requires Inv-loop μ-loop
-gate-requires c κs = (start (loop-of (c .before) .before) .pre .0, c .before .if1 .taken)
+loop2-holds : tie.Need-loop2-holds Inv-loop2 μ-loop2 Inv-loop μ-loop Inv-loop3 μ-loop3
+loop2-holds c = (omega arith, no-gates)
 
-slice-write-row : tie.Need-slice-write-row Inv-loop μ-loop
-unfolding inputs-limit latches-limit gates-limit row-width
-slice-write-row c =
-    let z = sizes (start (turn c .before)) in
-    omega (arith, turn c .loop .inv .1 .long)
+put-gate-requires : tie.Need-put-gate-requires Inv-loop2 μ-loop2 Inv-loop μ-loop Inv-loop3 μ-loop3
+put-gate-requires c κs =
+    let at = c .before .before in
+    (omega arith, omega (arith, at .loop2 .inv .1 .long, turn at .loop .inv .1 .long))
 
-add-j : tie.Need-add-j Inv-loop μ-loop
-unfolding gates-limit
-add-j c = let z = sizes (start (turn c .before)) in omega arith
+add-i : tie.Need-add-i Inv-loop2 μ-loop2 Inv-loop μ-loop Inv-loop3 μ-loop3
+add-i c = omega arith
 
-loop-less : tie.Need-loop-less Inv-loop μ-loop
+loop2-less : tie.Need-loop2-less Inv-loop2 μ-loop2 Inv-loop μ-loop Inv-loop3 μ-loop3
+loop2-less c = omega arith
+
+loop2-again : tie.Need-loop2-again Inv-loop2 μ-loop2 Inv-loop μ-loop Inv-loop3 μ-loop3
+loop2-again c =
+    let put = c .before .before in
+    let at = put .before .before .before in
+    let z = sizes (turn at) in
+    (omega arith, one-gate (at .loop2 .inv .1) (omega arith) (put .put-gate .ensures))
+
+loop-less : tie.Need-loop-less Inv-loop2 μ-loop2 Inv-loop μ-loop Inv-loop3 μ-loop3
 loop-less c = omega arith
 
-loop-again : tie.Need-loop-again Inv-loop μ-loop
-unfolding inputs-limit latches-limit gates-limit row-width
+loop-again : tie.Need-loop-again Inv-loop2 μ-loop2 Inv-loop μ-loop Inv-loop3 μ-loop3
 loop-again c =
-    let loop = turn c .loop in
-    let s = start (turn c .before) in
-    let z = sizes s in
-    let place : given-width (problem-at s) + loop .j ≡ 1 + (s .args .s .inputs + s .args .s .latches) + loop .j = omega arith in (
-      omega arith,
-      rw (place, ← (c .gate .ensures)) at
-          (one-gate (s .pre .0 .proper) (loop .inv .1) (omega arith) (omega (arith, loop .inv .1 .long))),
-    )
+    let at = c .before in
+    (omega arith, more-gates (turn at .loop .inv .1) (at .loop2 .inv .1) (omega arith))
 
-same-length : tie.Need-same-length Inv-loop μ-loop
-same-length c = c .before .before .loop .inv .1 .long
+loop3-holds : tie.Need-loop3-holds Inv-loop2 μ-loop2 Inv-loop μ-loop Inv-loop3 μ-loop3
+loop3-holds c = (omega arith, no-gates)
 
-returns : tie.Need-returns Inv-loop μ-loop
+put-gate-requires-2 : tie.Need-put-gate-requires-2 Inv-loop2 μ-loop2 Inv-loop μ-loop Inv-loop3 μ-loop3
+put-gate-requires-2 c κs =
+    let at = c .before .before in
+    (omega arith, omega (arith, at .loop3 .inv .1 .long, last at .loop .inv .1 .long))
+
+add-j : tie.Need-add-j Inv-loop2 μ-loop2 Inv-loop μ-loop Inv-loop3 μ-loop3
+add-j c = omega arith
+
+loop3-less : tie.Need-loop3-less Inv-loop2 μ-loop2 Inv-loop μ-loop Inv-loop3 μ-loop3
+loop3-less c = omega arith
+
+loop3-again : tie.Need-loop3-again Inv-loop2 μ-loop2 Inv-loop μ-loop Inv-loop3 μ-loop3
+loop3-again c =
+    let put = c .before .before in
+    let at = put .before .before .before in
+    let z = sizes (last at) in
+    (omega arith, one-gate (at .loop3 .inv .1) (omega arith) (put .put-gate2 .ensures))
+
+same-length : tie.Need-same-length Inv-loop2 μ-loop2 Inv-loop μ-loop Inv-loop3 μ-loop3
+same-length c = passed (c .before) .long
+
+returns : tie.Need-returns Inv-loop2 μ-loop2 Inv-loop μ-loop Inv-loop3 μ-loop3
 returns c =
-    let l = c .before .before in
-    let z = sizes (start (l .before)) in
-    all-gates (l .loop .inv .1) (omega arith)
+    let z = sizes (last (c .before)) in
+    all-gates (passed (c .before)) (omega arith)
 
 pub gates-spec : {M : Type 1} → statement M
 gates-spec =
     tie.close
     (tie.spec
+    Inv-loop2
+    μ-loop2
     Inv-loop
     μ-loop
-    add-first
-    cast-first
-    add-first-2
+    Inv-loop3
+    μ-loop3
+    gates-within-requires
     loop-holds
-    cast-at
-    add-at
-    gate-requires
-    slice-write-row
-    add-j
+    sub-loop
+    add-end
+    loop2-holds
+    put-gate-requires
+    add-i
+    loop2-less
+    loop2-again
     loop-less
     loop-again
+    loop3-holds
+    put-gate-requires-2
+    add-j
+    loop3-less
+    loop3-again
     same-length
     returns)

@@ -1,27 +1,39 @@
--- `literal` meets its contract: past the row a variable is false. Assumes nothing.
-use mathlib.Core.Bool.{Bool, true, false}
+-- `literal` meets its contract: a value differs from a sign where the sign turns it, and past the row a variable is false. Assumes nothing.
+use mathlib.Core.Bool.{Bool, true, false, not, Bool·beq}
 use mathlib.Core.Path.{_≡_, refl}
-use lib.ListN.{List·getD-eq-default}
+use Prim.Native.Nat.{_/_}
+use native.Mathlib.Omega.{arith}
+use lib.ListN.{getD, List·getD-eq-default}
 use borrow.Author.Needs.{needs}
 use Rattle.meaning.specs.Runs.{turned, odd}
 use Rattle.witness.proofs.rows.literal.Statement.{statement}
 use Rattle.witness.proofs.rows.literal.Tie as tie
 
-turned-false : (b : Bool) → b ≡ turned b false
+turned-differs : (value sign : Bool) → not (Bool·beq value sign) ≡ turned sign value
+turned-differs true true = refl
+turned-differs true false = refl
+turned-differs false true = refl
+turned-differs false false = refl
+
+turned-false : (sign : Bool) → sign ≡ turned sign false
 turned-false true = refl
 turned-false false = refl
 
 cast-v : tie.Need-cast-v
 cast-v c = search needs
 
-returns : tie.Need-returns
-returns c = rw (List·getD-eq-default _ false (c .if1 .taken)) (turned-false (odd (c .before .before .args .x)))
+shared-slice-read-result : tie.Need-shared-slice-read-result
+shared-slice-read-result c = search needs
 
-literal-within-requires : tie.Need-literal-within-requires
-literal-within-requires c κs = search needs
+returns : tie.Need-returns
+returns c =
+    let start = c .before .before .args in
+    turned-differs (getD (start .row .now) (start .x / 2) false) (odd (start .x))
 
 returns-2 : tie.Need-returns-2
-returns-2 c = search needs
+returns-2 c =
+    let start = c .before .args in
+    rw (List·getD-eq-default (start .row .now) false {n = start .x / 2} (omega arith)) (turned-false (odd (start .x)))
 
 pub literal-spec : {M : Type 1} → statement M
-literal-spec = tie.close (tie.spec cast-v returns literal-within-requires returns-2)
+literal-spec = tie.close (tie.spec cast-v shared-slice-read-result returns returns-2)

@@ -1,12 +1,12 @@
 -- `row` meets its contract: the inputs, the latches, then the gates over them. Assumes nothing.
 use mathlib.Core.List.{List}
-use mathlib.Core.Path.{_≡_, _∙_}
+use mathlib.Core.Path.{_≡_}
 use Prim.Native.Nat.{ℕ, _+_, _*_, _-_}
 use native.Mathlib.Omega.{arith}
 use borrow.Rule.Slice.PartMut.{same-len-mid}
 use Rattle.meaning.specs.Limits.{inputs-limit, latches-limit, gates-limit}
 use Rattle.witness.specs.Tables.{row-width}
-use Rattle.witness.proofs.RowParts.{row-room, row-wide, ready-still, row-there}
+use Rattle.witness.proofs.RowParts.{row-room, ready-still, row-there}
 use borrow.Author.Needs.{needs}
 use Rattle.witness.proofs.rows.row.Statement.{statement}
 use Rattle.witness.proofs.rows.row.Tie as tie
@@ -59,14 +59,7 @@ part-gates-end c =
     omega (arith, row-room (start inputs .pre), latches .latches .kept .1 .1 .1 .1 .0, inputs .inputs .kept .1 .1 .1 .0)
 
 gates-requires : tie.Need-gates-requires
-unfolding inputs-limit latches-limit gates-limit row-width
-gates-requires c κs =
-    let latches = c .before .before .before in
-    let inputs = inputs-of latches in (
-      start inputs .pre .good,
-      rw (size (start inputs .args .t * row-width))
-          (row-wide (start inputs .pre) _ (latches .latches .kept .1 .1 .1 .1 .0 ∙ inputs .inputs .kept .1 .1 .1 .0)),
-    )
+gates-requires c κs = search needs
 
 same-length : tie.Need-same-length
 same-length c = search needs
@@ -78,10 +71,9 @@ returns c =
     let latches = latches-of gates in
     let inputs = inputs-of latches in
     let from : ℕ = start inputs .args .t * row-width in
-    let length = size from in
     row-there (start inputs .pre) _ _ _ (inputs .inputs .kept .1 .1 .1 .0) (latches .latches .kept .1 .1 .1 .1 .0)
     (inputs .inputs .ensures (words inputs)) (latches .latches .ensures)
-    (rw length at (gates .gates .kept .1 .1 .0)) (rw length at (gates .gates .ensures)) _
+    (rw (size from) at (gates .gates .ensures)) _
     (same-len-mid from ((from + row-width) - from) _ (gates .gates .last .1 .1 .0) (gates .gates .kept .1 .1 .0))
 
 pub row-spec : {M : Type 1} → statement M

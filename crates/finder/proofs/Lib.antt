@@ -1,0 +1,20 @@
+-- What the functions' proofs share, that the promise decides the answer, what the answers mean, and that wrong versions break the promise.
+pub mod Digits
+pub mod FromTheLast
+pub mod FirstLatches
+pub mod Filling
+pub mod NewRun
+pub mod RunValues
+pub mod Accepted
+pub mod ShownRuns
+pub mod BestRuns
+pub mod InOrder
+pub mod FirstFound
+pub mod RoomWritten
+pub mod FinderAnswers
+pub mod Unique
+pub mod Means
+pub mod FoundCases
+pub mod Lazy
+pub mod LazyRuns
+pub mod LazyAnswers
