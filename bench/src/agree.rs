@@ -5,6 +5,7 @@ use crate::plain::Answer;
 use crate::random::Random;
 use crate::samples::circuits::{resized, Shown, VERSION};
 use crate::samples::refuted::Refuted;
+use crate::samples::searches::small;
 use crate::{plain, proved};
 use std::collections::BTreeSet;
 
@@ -16,6 +17,9 @@ const INPUTS_FROM: usize = 1 + MOST[1] as usize;
 
 /// How often each request is damaged.
 const TIMES: usize = 200;
+
+/// How many small problems are searched.
+const SEARCHES: usize = 4_000;
 
 /// A buffer that is empty, cut short, has a word too many, or another word in one place.
 fn damaged<T: Copy>(random: &mut Random, words: &[T], word: impl Fn(&mut Random) -> T) -> Vec<T> {
@@ -113,6 +117,31 @@ pub fn refutations(random: &mut Random, of: &Refuted) -> Numbers {
         let (values, places) = &mut plain_areas;
         same(&mut numbers, proved, plain::refutation::judge(of.variables, &cnf, &refutation, values, places));
         assert!(proved_areas == plain_areas, "both leave the same work areas");
+    }
+    numbers
+}
+
+/// Small problems of 0 to 18 free bits, so that 17 comes on either side of its limit; few of many, since those take long. Rooms are too
+/// short, as long as they need be, or longer.
+pub fn searches(random: &mut Random) -> Numbers {
+    let mut numbers = Numbers::new();
+    for _ in 0..SEARCHES {
+        let free = if random.one_in(10) { random.between(12, 18) } else { random.below(12) };
+        let mut words = small(random, free);
+        let needed = 1 + (words[1] + words[0] * (words[4] + 1)) as usize;
+        let size = match random.below(8) {
+            0 => random.below(needed),
+            1..4 => needed + random.below(9),
+            _ => needed,
+        };
+        if random.one_in(6) {
+            words = damaged(random, &words, |random| random.below(20) as u32);
+        }
+        let version = version(random);
+        let (mut proved_room, mut plain_room) = (vec![7; size], vec![7; size]);
+        let proved = proved::find(version, &words, &mut proved_room);
+        same(&mut numbers, proved, plain::finder::find(version, &words, &mut plain_room));
+        assert_eq!(proved_room, plain_room, "both leave one room");
     }
     numbers
 }

@@ -13,6 +13,7 @@ use plain::{answer, Answer, YES};
 use random::Random;
 use samples::circuits::{largest, lassos, prefixes, Shown, VERSION};
 use samples::refuted::{self, Refuted};
+use samples::searches::{self, Sought};
 use std::hint::black_box;
 use timing::{medians, Medians};
 
@@ -28,6 +29,13 @@ const LARGEST: usize = 437_012;
 const ROUNDS: usize = 101;
 const SHORT_ROUNDS: usize = 2_001;
 const LONG_ROUNDS: usize = 31;
+
+/// More bytes than the witnesses that are sought have.
+const SEARCH_ROOM: usize = 64;
+
+/// Rounds of a search, and of the one that takes seconds.
+const SEARCH_ROUNDS: usize = 9;
+const LONGEST_SEARCH_ROUNDS: usize = 3;
 
 fn print(call: &str, work: &str, Medians { proved, plain }: Medians) {
     let [proved, plain] = [proved, plain].map(|time| time.as_secs_f64() * 1e6);
@@ -91,6 +99,34 @@ fn judge_refutation(of: &Refuted) {
     print("judge a refutation", &work, medians(rounds, proved, plain));
 }
 
+fn find(work: &str, Sought { words, witness }: &Sought, rounds: usize) {
+    let answer = witness.as_ref().map_or(answer(29, 0), |witness| answer(0, witness.len()));
+    let (mut room, mut plain_room) = ([7; SEARCH_ROOM], [7; SEARCH_ROOM]);
+    // The answers are looked at in the rounds: a round more would take as long again.
+    let proved = || assert_eq!(proved::find(VERSION, words, &mut room), answer, "proved code finds it");
+    let plain =
+        || assert_eq!(plain::finder::find(VERSION, words, &mut plain_room), answer, "plain Rust finds it");
+    print("find a witness", work, medians(rounds, proved, plain));
+    let mut wanted = [7; SEARCH_ROOM];
+    if let Some(witness) = witness {
+        wanted[..witness.len()].copy_from_slice(witness);
+    }
+    assert!(room == wanted && plain_room == wanted, "both write the first witness, or nothing");
+}
+
+fn find_all() {
+    let all = [
+        ("65,536 runs, all limits, none", searches::none_of_latches(SEED), LONGEST_SEARCH_ROUNDS),
+        ("65,536 runs by one input, none", searches::none_of_inputs(SEED), SEARCH_ROUNDS),
+        ("1,024 runs, all loops close, none", searches::none_of_loops(SEED, 10), SEARCH_ROUNDS),
+        ("4,096 runs, the last a lasso", searches::last_of_lassos(SEED, 12), SEARCH_ROUNDS),
+        ("65,536 counts, one of the last", searches::meter(), SEARCH_ROUNDS),
+    ];
+    for (work, sought, rounds) in &all {
+        find(work, sought, *rounds);
+    }
+}
+
 fn main() {
     let (prefixes, lassos, largest) = (prefixes(SEED, PROBLEMS), lassos(SEED, PROBLEMS), largest(SEED));
     let refuted: Vec<Refuted> = refuted::all().collect();
@@ -102,6 +138,7 @@ fn main() {
         numbers.extend(agree::witnesses(random, shown));
     }
     numbers.extend(agree::refutations(random, &refuted[0]));
+    numbers.extend(agree::searches(random));
     println!("both give the same answers to some thousands of requests, among them {numbers:?}");
 
     println!("{:<20}{:<40}{:>13}{:>13}{:>8}", "call", "work", "proved", "plain Rust", "ratio");
@@ -112,4 +149,5 @@ fn main() {
     for refuted in &refuted {
         judge_refutation(refuted);
     }
+    find_all();
 }

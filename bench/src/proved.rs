@@ -45,6 +45,15 @@ extern "C" {
         by_clauses_len: usize,
         place: *mut u64,
     ) -> u32;
+
+    fn calls_find(
+        version: u32,
+        words: *const u32,
+        words_len: usize,
+        room: *mut u8,
+        room_len: usize,
+        place: *mut u64,
+    ) -> u32;
 }
 
 pub fn check_problem(version: u32, words: &[u32]) -> (Answer, Counts) {
@@ -98,5 +107,13 @@ pub fn judge_refutation(
             &mut place,
         )
     };
+    answer(number, place as usize)
+}
+
+pub fn find(version: u32, words: &[u32], room: &mut [u8]) -> Answer {
+    let mut place = 0;
+    let (w, r) = (words, room);
+    // SAFETY: as above; the room is lent for the call alone.
+    let number = unsafe { calls_find(version, w.as_ptr(), w.len(), r.as_mut_ptr(), r.len(), &mut place) };
     answer(number, place as usize)
 }

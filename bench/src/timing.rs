@@ -9,8 +9,9 @@ pub struct Medians {
     pub plain: Duration,
 }
 
-/// Rounds that are not counted: caches and branch predictors warm up.
+/// Rounds that are not counted: caches and branch predictors warm up. A call so long that it has but few rounds is warm soon after it began.
 const WARMING: usize = 3;
+const FEW: usize = 10;
 
 fn timed<T>(call: &mut impl FnMut() -> T) -> Duration {
     let began = Instant::now();
@@ -26,7 +27,8 @@ fn median(mut times: Vec<Duration>) -> Duration {
 /// Times so many rounds; which of the two goes first changes from round to round.
 pub fn medians<T>(rounds: usize, mut proved: impl FnMut() -> T, mut plain: impl FnMut() -> T) -> Medians {
     let (mut of_proved, mut of_plain) = (vec![], vec![]);
-    for round in 0..WARMING + rounds {
+    let warming = if rounds < FEW { 0 } else { WARMING };
+    for round in 0..warming + rounds {
         let (a, b) = if round % 2 == 0 {
             let a = timed(&mut proved);
             (a, timed(&mut plain))
@@ -34,7 +36,7 @@ pub fn medians<T>(rounds: usize, mut proved: impl FnMut() -> T, mut plain: impl 
             let b = timed(&mut plain);
             (timed(&mut proved), b)
         };
-        if round >= WARMING {
+        if round >= warming {
             of_proved.push(a);
             of_plain.push(b);
         }

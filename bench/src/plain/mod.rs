@@ -3,6 +3,7 @@
 
 pub mod cnf;
 pub mod counts;
+pub mod finder;
 pub mod problem;
 pub mod refutation;
 pub mod witness;

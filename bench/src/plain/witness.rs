@@ -15,7 +15,7 @@ fn judged(version: u32, words: &[u32], witness: &[u8]) -> Result<(), Answer> {
     if let Some(start) = start {
         check_loop(&problem, &rows, start)?;
     }
-    if formula(&problem, &rows, start) {
+    if formula(&problem, &rows, start, &mut truths(&problem)) {
         Ok(())
     } else {
         Err(answer(10, 0))
@@ -43,17 +43,29 @@ fn check_bytes(problem: &Problem, witness: &[u8]) -> Result<(), Answer> {
 }
 
 /// The value of a literal in a row of the variables 0..W.
-fn value(row: &[bool], literal: u32) -> bool {
+pub fn value(row: &[bool], literal: u32) -> bool {
     row[literal as usize / 2] != (literal % 2 == 1)
 }
 
-/// The values of the variables 0..W at each position, one row after the other.
+/// Room for the values of the variables 0..W at each position, one row after the other.
+pub fn rows(problem: &Problem) -> Vec<bool> {
+    vec![false; (problem.bound + 1) * (problem.width() + 1)]
+}
+
+/// The gates of a row, each over the variables before it.
+pub fn gates(problem: &Problem, row: &mut [bool]) {
+    let first = 1 + problem.inputs + problem.latches.len();
+    for (j, &[left, right]) in problem.gates.iter().enumerate() {
+        row[first + j] = value(row, left) & value(row, right);
+    }
+}
+
+/// The rows of the run that a witness shows.
 fn run(problem: &Problem, witness: &[u8]) -> Vec<bool> {
     let (inputs, latches) = (problem.inputs, problem.latches.len());
     let width = problem.width() + 1;
-    let mut rows = vec![false; (problem.bound + 1) * width];
-    let first = 1 + inputs + latches;
-    for (bit, &byte) in rows[1 + inputs..first].iter_mut().zip(&witness[1..]) {
+    let mut rows = rows(problem);
+    for (bit, &byte) in rows[1 + inputs..][..latches].iter_mut().zip(&witness[1..]) {
         *bit = byte == 1;
     }
     for t in 0..=problem.bound {
@@ -62,9 +74,7 @@ fn run(problem: &Problem, witness: &[u8]) -> Vec<bool> {
         for (bit, &byte) in row[1..].iter_mut().zip(bytes) {
             *bit = byte == 1;
         }
-        for (j, &[left, right]) in problem.gates.iter().enumerate() {
-            row[first + j] = value(row, left) & value(row, right);
-        }
+        gates(problem, row);
         if t < problem.bound {
             for (bit, &[next, _]) in after[1 + inputs..].iter_mut().zip(problem.latches) {
                 *bit = value(row, next);
@@ -75,7 +85,7 @@ fn run(problem: &Problem, witness: &[u8]) -> Vec<bool> {
 }
 
 /// 9: the first latch whose next value at k is not its value at the loop's start.
-fn check_loop(problem: &Problem, rows: &[bool], start: usize) -> Result<(), Answer> {
+pub fn check_loop(problem: &Problem, rows: &[bool], start: usize) -> Result<(), Answer> {
     let width = problem.width() + 1;
     let last = &rows[problem.bound * width..];
     let here = &rows[start * width + 1 + problem.inputs..];
@@ -105,11 +115,15 @@ fn passes(row: &mut [bool], end: bool, start: Option<usize>, of: impl Fn(usize, 
     pass(row, row[start], of);
 }
 
-/// Whether the formula, the last node, is true at position 0.
-fn formula(problem: &Problem, rows: &[bool], start: Option<usize>) -> bool {
+/// Room for the values of the nodes at each position, one node after the other.
+pub fn truths(problem: &Problem) -> Vec<bool> {
+    vec![false; problem.nodes.len() * (problem.bound + 1)]
+}
+
+/// Whether the formula, the last node, is true at position 0; every node is valued anew.
+pub fn formula(problem: &Problem, rows: &[bool], start: Option<usize>, truth: &mut [bool]) -> bool {
     let width = problem.width() + 1;
     let positions = problem.bound + 1;
-    let mut truth = vec![false; problem.nodes.len() * positions];
     for (n, &[op, a, b]) in problem.nodes.iter().enumerate() {
         let (below, row) = truth.split_at_mut(n * positions);
         let row = &mut row[..positions];

@@ -14,6 +14,7 @@ const BOUND: usize = MOST[4] as usize;
 
 const FIRST_GATE: usize = 1 + INPUTS + LATCHES;
 const VARIABLES: usize = FIRST_GATE + GATES;
+const LITERALS: usize = 2 * VARIABLES;
 
 /// A problem's words and a witness of it.
 pub struct Shown {
@@ -45,13 +46,13 @@ fn over_inputs(random: &mut Random, gates: usize) -> u32 {
     turned(random, if n < INPUTS { 1 + n } else { FIRST_GATE + n - INPUTS })
 }
 
-/// As many nodes as there may be, each named by a later one but the last.
-fn formula(random: &mut Random) -> Vec<[u32; 3]> {
+/// So many nodes over so many literals, each named by a later one but the last.
+pub fn formula(random: &mut Random, nodes: usize, literals: usize) -> Vec<[u32; 3]> {
     let mut open: Vec<u32> = vec![];
     let node = |n: usize| {
-        let left = NODES - n;
+        let left = nodes - n;
         let node = if open.len() < left && (open.is_empty() || random.one_in(4)) {
-            [ATOM, random.below(2 * VARIABLES) as u32, 0]
+            [ATOM, random.below(literals) as u32, 0]
         } else if open.len() > left || (open.len() > 1 && random.one_in(2)) {
             let a = open.swap_remove(random.below(open.len()));
             let b = open.swap_remove(random.below(open.len()));
@@ -68,7 +69,7 @@ fn formula(random: &mut Random) -> Vec<[u32; 3]> {
         open.push(n as u32);
         node
     };
-    (0..NODES).map(node).collect()
+    (0..nodes).map(node).collect()
 }
 
 /// The bytes of a run, its latches by their resets.
@@ -82,9 +83,9 @@ fn bytes(random: &mut Random, first: usize, latches: &[[u32; 2]], inputs: &[Vec<
 }
 
 fn prefix(random: &mut Random) -> Shown {
-    let latch = |random: &mut Random| [random.below(2 * VARIABLES) as u32, random.below(3) as u32];
+    let latch = |random: &mut Random| [random.below(LITERALS) as u32, random.below(3) as u32];
     let latches: Vec<_> = (0..LATCHES).map(|_| latch(random)).collect();
-    let words = words(&latches, &gates(random), &formula(random));
+    let words = words(&latches, &gates(random), &formula(random, NODES, LITERALS));
     let inputs: Vec<_> = (0..=BOUND).map(|_| bits(random, INPUTS)).collect();
     Shown { words, witness: bytes(random, 0, &latches, &inputs) }
 }
@@ -97,7 +98,7 @@ fn lasso(random: &mut Random) -> Shown {
     }
     let latch = |random: &mut Random| [over_inputs(random, GATES / 4), random.below(3) as u32];
     let latches: Vec<_> = (0..LATCHES).map(|_| latch(random)).collect();
-    let words = words(&latches, &gates, &formula(random));
+    let words = words(&latches, &gates, &formula(random, NODES, LITERALS));
     let mut inputs: Vec<_> = (0..=BOUND).map(|_| bits(random, INPUTS)).collect();
     let start = random.between(1, BOUND);
     inputs[BOUND] = inputs[start - 1].clone();
@@ -124,9 +125,9 @@ pub fn lassos(seed: u64, count: usize) -> Vec<Shown> {
 /// The words of a problem whose CNF is as long as one can be: every reset fixed, and U or R nodes over one atom.
 pub fn largest(seed: u64) -> Vec<u32> {
     let random = &mut Random::new(seed);
-    let latch = |random: &mut Random| [random.below(2 * VARIABLES) as u32, random.below(2) as u32];
+    let latch = |random: &mut Random| [random.below(LITERALS) as u32, random.below(2) as u32];
     let latches: Vec<_> = (0..LATCHES).map(|_| latch(random)).collect();
-    let mut nodes = vec![[ATOM, random.below(2 * VARIABLES) as u32, 0]];
+    let mut nodes = vec![[ATOM, random.below(LITERALS) as u32, 0]];
     nodes.extend((1..NODES as u32).map(|n| [random.pick(&[UNTIL, RELEASE]), 0, n - 1]));
     words(&latches, &gates(random), &nodes)
 }

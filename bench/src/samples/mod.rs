@@ -2,4 +2,5 @@
 
 pub mod circuits;
 pub mod refuted;
+pub mod searches;
 mod solver;
