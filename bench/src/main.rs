@@ -40,7 +40,7 @@ const LONGEST_SEARCH_ROUNDS: usize = 3;
 fn print(call: &str, work: &str, Medians { proved, plain }: Medians) {
     let [proved, plain] = [proved, plain].map(|time| time.as_secs_f64() * 1e6);
     let ratio = proved / plain;
-    println!("{call:<20}{work:<40}{proved:>10.1} µs{plain:>10.1} µs{ratio:>8.2}");
+    println!("{call:<20}{work:<42}{proved:>10.1} µs{plain:>10.1} µs{ratio:>8.2}");
 }
 
 /// A number with a comma before each three digits.
@@ -85,7 +85,7 @@ fn write_cnf(words: &[u32]) {
     assert!(room == plain_room, "both write one CNF");
 }
 
-fn judge_refutation(of: &Refuted) {
+fn judge_refutation(kind: &str, of: &Refuted) {
     let Refuted { variables, cnf, refutation, clauses, steps } = of;
     let areas = || (vec![0; *variables as usize + 1], vec![0; clauses + steps]);
     let (mut values, mut places) = areas();
@@ -94,7 +94,7 @@ fn judge_refutation(of: &Refuted) {
     let mut plain =
         || plain::refutation::judge(*variables, cnf, refutation, &mut plain_values, &mut plain_places);
     assert_eq!((proved(), plain()), (YES, YES), "both accept the refutation");
-    let work = format!("{} steps, {} words", grouped(*steps), grouped(refutation.len()));
+    let work = format!("{} steps{kind}, {} words", grouped(*steps), grouped(refutation.len()));
     let rounds = if *steps < 100_000 { ROUNDS } else { LONG_ROUNDS };
     print("judge a refutation", &work, medians(rounds, proved, plain));
 }
@@ -130,6 +130,7 @@ fn find_all() {
 fn main() {
     let (prefixes, lassos, largest) = (prefixes(SEED, PROBLEMS), lassos(SEED, PROBLEMS), largest(SEED));
     let refuted: Vec<Refuted> = refuted::all().collect();
+    let trivial = refuted::with_trivial(SEED, &refuted[1]);
 
     let random = &mut Random::new(SEED);
     let mut numbers = agree::cnfs(random, &largest, LARGEST);
@@ -138,16 +139,18 @@ fn main() {
         numbers.extend(agree::witnesses(random, shown));
     }
     numbers.extend(agree::refutations(random, &refuted[0]));
+    numbers.extend(agree::refutations(random, &refuted::with_trivial(SEED, &refuted[0])));
     numbers.extend(agree::searches(random));
     println!("both give the same answers to some thousands of requests, among them {numbers:?}");
 
-    println!("{:<20}{:<40}{:>13}{:>13}{:>8}", "call", "work", "proved", "plain Rust", "ratio");
+    println!("{:<20}{:<42}{:>13}{:>13}{:>8}", "call", "work", "proved", "plain Rust", "ratio");
     check_problems(&prefixes);
     judge_witnesses("prefixes", &prefixes);
     judge_witnesses("lassos", &lassos);
     write_cnf(&largest);
     for refuted in &refuted {
-        judge_refutation(refuted);
+        judge_refutation("", refuted);
     }
+    judge_refutation(", half trivial", &trivial);
     find_all();
 }

@@ -1,4 +1,5 @@
-//! A second reading of document 01, and of the finder of document 02, in plain Rust, to test the checker against.
+//! A second reading of document 01, and of the finder and the trivially true steps of document 02, in plain Rust, to
+//! test the checker against.
 
 mod answers;
 mod cnf;
@@ -21,7 +22,7 @@ const USAGE: &str = "usage:
   reference answer < requests > answers
   reference against ANSWERS < requests   the first request that these answers answer otherwise
   reference make SEED KIND COUNT > requests
-      KIND: cnf, problem, limits, witness, cases, refute, find; broken with the number of a stream for COUNT
+      KIND: cnf, problem, limits, witness, cases, refute, find, trivial; broken with the number of a stream for COUNT
   reference streams                 how many broken streams there are
   reference tally SEED KIND COUNT   how often each call gives each answer
   reference selfcheck SEED

@@ -76,11 +76,12 @@ impl Values {
     }
 }
 
-/// Whether a step follows by its hints; `known` are all clauses before it.
+/// Whether a step passes; `known` are all clauses before it. A clause with a variable in both signs is true anyway,
+/// and then no hint may stand with it; any other follows by its hints.
 fn passes(known: &[&[i32]], step: &Step) -> bool {
     let signs: HashSet<i32> = step.clause.iter().copied().collect();
     if signs.iter().any(|&literal| signs.contains(&-literal)) {
-        return false;
+        return step.hints.is_empty();
     }
     let mut values = Values(HashMap::new());
     for &literal in step.clause {

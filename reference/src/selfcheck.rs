@@ -4,6 +4,7 @@ use crate::answers::{self, judge_problem_refutation};
 use crate::make::{self, shapes};
 use crate::problem::{check, Answer, Problem};
 use crate::random::Random;
+use crate::splitting::Step;
 use crate::{cnf, finder, job, models, refutation, splitting, witness};
 
 const T_TEXT: &str = "p cnf 6 12\n1 0\n-2 0\n-3 -2 -2 0\n-3 2 2 0\n-4 2 0\n4 -2 0\n-5 4 0\n5 -4 0\n\
@@ -97,9 +98,17 @@ fn figures(tally: &mut Tally) {
     let largest = check(1, &make::all_limits()).expect("all limits are allowed");
     let length = cnf::words(&largest).len();
     tally.expect(length == 437_012, || format!("the largest CNF has {length} words"));
-    let cases: [(&[i32], u32, usize); 3] = [(&[0, 2, 12, 5, 0], 0, 0), (&[0, 12, 5, 0], 13, 0), (&[], 14, 0)];
+    let cases: [(&[i32], u32, usize); 7] = [
+        (&[0, 2, 12, 5, 0], 0, 0),
+        (&[0, 12, 5, 0], 13, 0),
+        (&[], 14, 0),
+        (&[1, -1, 0, 0, 0, 2, 12, 5, 0], 0, 0),
+        (&[1, -1, 0, 1, 0], 13, 0),
+        (&[1, -1, 0, 0], 14, 1),
+        (&[1, -1, 0, 0, 0, 13, 2, 12, 5, 0], 13, 1),
+    ];
     for (refutation, number, place) in cases {
-        let (mut room, mut first, mut second) = (vec![7; 40], vec![7; 8], vec![7; 14]);
+        let (mut room, mut first, mut second) = (vec![7; 40], vec![7; 8], vec![7; 15]);
         let answer = judge_problem_refutation(1, &make::T, refutation, &mut room, &mut first, &mut second);
         let right = answer == Answer { number, place };
         tally.expect(right, || format!("T and {refutation:?}: {answer:?}"));
@@ -108,9 +117,35 @@ fn figures(tally: &mut Tally) {
     }
 }
 
-fn judge(variables: usize, clauses: &[&[i32]], words: &[i32]) -> u32 {
+fn judge(variables: usize, clauses: &[&[i32]], words: &[i32]) -> Answer {
     let (mut first, mut second) = (vec![0; variables + 1], vec![0; clauses.len() + words.len()]);
-    refutation::judge(variables, clauses, words, &mut first, &mut second).number
+    refutation::judge(variables, clauses, words, &mut first, &mut second)
+}
+
+/// With steps that are trivially true put into it a refutation gets the answer that is laid down; none is accepted where
+/// a clause gives way to one that is trivially true and a model is left.
+fn trivial_steps(
+    tally: &mut Tally,
+    random: &mut Random,
+    variables: usize,
+    clauses: &[Vec<i32>],
+    steps: &[Step],
+) {
+    let of = make::Of { variables: variables as i32, clauses: clauses.len() };
+    let variants = make::variants(random, of, steps);
+    let parts: Vec<&[i32]> = clauses.iter().map(Vec::as_slice).collect();
+    for (steps, wanted) in &variants {
+        let answer = judge(variables, &parts, &splitting::words(steps));
+        tally.expect(answer == *wanted, || format!("{parts:?}: {steps:?} got {answer:?}, not {wanted:?}"));
+    }
+    let mut parts = parts;
+    let at = random.below(parts.len());
+    parts[at] = &[1, -1];
+    let left = !models::all_by_trying(variables, &parts).is_empty();
+    for (steps, _) in &variants {
+        let sound = !left || judge(variables, &parts, &splitting::words(steps)).number != 0;
+        tally.expect(sound, || format!("{parts:?}: {steps:?} is accepted"));
+    }
 }
 
 /// Refutations by splitting are accepted; damaged ones never where a model is left.
@@ -119,7 +154,10 @@ fn refutations(tally: &mut Tally, random: &mut Random) {
     let parts: Vec<&[i32]> = clauses.iter().map(Vec::as_slice).collect();
     let steps = splitting::refute(random, &parts, 200).expect("it has no model");
     let accepted = judge(variables, &parts, &splitting::words(&steps));
-    tally.expect(accepted == 0, || format!("{parts:?}: {steps:?} got {accepted}"));
+    tally.expect(accepted.number == 0, || format!("{parts:?}: {steps:?} got {accepted:?}"));
+    if variables > 0 {
+        trivial_steps(tally, random, variables, &clauses, &steps);
+    }
     clauses.remove(random.below(clauses.len()));
     let parts: Vec<&[i32]> = clauses.iter().map(Vec::as_slice).collect();
     let mut models = models::all(variables, &parts);
@@ -129,7 +167,7 @@ fn refutations(tally: &mut Tally, random: &mut Random) {
     let of = make::Of { variables: variables as i32, clauses: parts.len() };
     for _ in 0..20 {
         let words = make::damaged(random, of, &steps);
-        let sound = judge(variables, &parts, &words) != 0 || models.is_empty();
+        let sound = judge(variables, &parts, &words).number != 0 || models.is_empty();
         tally.expect(sound, || format!("{parts:?}: {words:?} is accepted"));
     }
 }
@@ -150,6 +188,15 @@ fn requests_reach_all(tally: &mut Tally, seed: u64) {
     for (kind, count) in [("cnf", 250), ("problem", 1_000), ("witness", 20), ("refute", 20), ("find", 1_000)]
     {
         made.extend(make::requests(seed, kind, count).expect("a kind"));
+    }
+    let trivial = answers::tally(&make::requests(seed, "trivial", 100).expect("a kind"));
+    for (call, least) in [(4, 100), (5, 20)] {
+        for answer in [0, 13, 14] {
+            let times = trivial.get(&(call, answer, None)).copied().unwrap_or(0);
+            tally.expect(times > least, || {
+                format!("trivial: call {call} has the answer {answer} {times} times")
+            });
+        }
     }
     let times = answers::tally(&made);
     for call in 1..=6 {

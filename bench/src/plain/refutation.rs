@@ -160,6 +160,16 @@ impl Judge<'_> {
         None
     }
 
+    /// How many literals and hints the step at the start of the words has, if it is accepted. One that is trivially true has no hints.
+    fn accepted(&mut self, stamp: u64, words: &[i32]) -> Option<(usize, usize)> {
+        let Some(literals) = self.set_false(stamp, words) else {
+            let literals = words.iter().position(|&word| word == 0)?;
+            return (words[literals + 1] == 0).then_some((literals, 0));
+        };
+        let hints = self.follows(stamp, &words[literals + 1..])?;
+        Some((literals, hints))
+    }
+
     /// 13 and 14: the steps one after the other.
     fn steps(&mut self) -> Result<(), Answer> {
         let mut done = 0;
@@ -167,9 +177,7 @@ impl Judge<'_> {
         let mut rest = self.refutation;
         while !rest.is_empty() {
             let stamp = done as u64 + 1;
-            let literals = self.set_false(stamp, rest);
-            let hints = literals.and_then(|literals| self.follows(stamp, &rest[literals + 1..]));
-            let (Some(literals), Some(hints)) = (literals, hints) else {
+            let Some((literals, hints)) = self.accepted(stamp, rest) else {
                 return Err(answer(13, done));
             };
             self.places[self.clauses + done] = (self.refutation.len() - rest.len()) as u64;

@@ -78,6 +78,23 @@ fn refuted((steps, variables, seed): (usize, usize, u64)) -> Refuted {
     Refuted { variables: variables as u32, cnf, refutation, clauses: clauses.len(), steps }
 }
 
+/// The same refutation with a step in front of each that is trivially true: a clause like the CNF's, and one more sign.
+pub fn with_trivial(seed: u64, of: &Refuted) -> Refuted {
+    let mut random = Random::new(seed);
+    let clauses = of.clauses as i32;
+    // Step n, from 1 on, has the number after the clauses and n - 1 pairs.
+    let renumbered = |hint: i32| if hint <= clauses { hint } else { clauses + 2 * (hint - clauses) };
+    let mut words = vec![];
+    for step in of.refutation.split_inclusive(|&word| word == 0).collect::<Vec<_>>().chunks(2) {
+        let clause = random_clause(&mut random, of.variables as usize);
+        words.extend(&clause);
+        words.extend([-clause[random.below(3)], 0, 0]);
+        words.extend(step[0]);
+        words.extend(step[1].iter().map(|&hint| renumbered(hint)));
+    }
+    Refuted { cnf: of.cnf.clone(), refutation: words, steps: 2 * of.steps, ..*of }
+}
+
 /// One refutation of each size.
 pub fn all() -> impl Iterator<Item = Refuted> {
     KNOWN.into_iter().map(refuted)

@@ -1,14 +1,14 @@
--- The page to trust: the three demands as theorems of the calls of document 01 and of Q-3 of document 02, each stated in full and proved by the theorem that it names.
+-- The page to trust: the three demands as theorems of the calls of document 01 and of Q-3 and Q-4 of document 02, each stated in full and proved by the theorem that it names.
 -- That a call keeps the promise that a theorem asks for is its `ensures`, in crates/*/src; what is to be believed besides is the definitions that
 -- the statements name (docs/PROMISES.md lists both). Assumes nothing.
-use mathlib.Core.{Path._≡_, List.List, List._++_, List.List·Memᴰ, Logic._↔_, Logic._⊎_}
+use mathlib.Core.{Path._≡_, List.List, List._++_, List.map, List.List·Memᴰ, Option.some, Logic._↔_, Logic._⊎_}
 use mathlib.Core.Bool.{Bool, true, false, _&&_, _||_}
 use Prim.Native.Nat.{ℕ, suc, _+_, _-_, _^_, _≤_, _<_}
 use lib.{IntN.ℤ, IntN.pos, ListN.length, ListN.getD}
-use Rattle.clauses.specs.{Lists.written, Lists.each, Limits.variables-limit, Answers.granted, Answers.first-failing}
-use Rattle.clauses.specs.Clauses.{Clause, Assignment, size, clause-true, Satisfies, Within}
+use Rattle.clauses.specs.{Lists.written, Lists.each, Lists.empty, Limits.variables-limit, Answers.granted, Answers.first-failing}
+use Rattle.clauses.specs.Clauses.{Clause, Assignment, negated, size, clause-true, Satisfies, Within}
 use Rattle.clauses.specs.CnfWords.{clauses-of, cnf-checks}
-use Rattle.clauses.specs.Refutations.{Step, steps-of, refutation-checks, Lookup, SatisfiesNamed, step-accepted, judge-steps, numbers-area, clauses-area}
+use Rattle.clauses.specs.Refutations.{Step, steps-of, refutation-checks, Lookup, SatisfiesNamed, both-signs, hints-conflict, step-accepted, judge-steps, numbers-area, clauses-area}
 use Rattle.clauses.specs.Refutable.{Refutation, WordsFit, AcceptedWords}
 use Rattle.refutation.specs.declared.{RefutationAnswer.RefutationAnswer}
 use Rattle.refutation.specs.declared.RefutationAnswer.the-variants as cnf-judge
@@ -238,6 +238,20 @@ pairs-off version ws formed = Rattle.pairing.proofs.PairsOff.pairs-off (problem
 -- An accepted step's clause follows from those that its hints can name.
 pub step-sound : (named : Lookup) (s : Step) → step-accepted named s ≡ true → (a : Assignment) → SatisfiesNamed a named → clause-true a (s .clause) ≡ true
 step-sound = Rattle.clauses.proofs.Sound.step-sound
+
+-- Document 02, Q-4: a clause with both signs of a variable is the constant true. Its step is accepted exactly if it has no hints, and every other step by
+-- its hints; and no hint of an accepted step names such a clause.
+pub trivially-true : (c : Clause) → both-signs c ≡ true → (a : Assignment) → clause-true a c ≡ true
+trivially-true = Rattle.clauses.proofs.StepRule.trivially-true
+
+pub trivial-step : (named : Lookup) (s : Step) → both-signs (s .clause) ≡ true → step-accepted named s ≡ empty (s .hints)
+trivial-step = Rattle.clauses.proofs.StepRule.by-no-hints
+
+pub other-step : (named : Lookup) (s : Step) → both-signs (s .clause) ≡ false → step-accepted named s ≡ hints-conflict named (map negated (s .clause)) (s .hints)
+other-step = Rattle.clauses.proofs.StepRule.by-hints
+
+pub never-a-hint : (named : Lookup) (s : Step) → step-accepted named s ≡ true → {h : ℕ} → List·Memᴰ h (s .hints) → (c : Clause) → named h ≡ some c → both-signs c ≡ false
+never-a-hint = Rattle.clauses.proofs.NeverAHint.never-a-hint
 
 -- "An accepted refutation leaves a CNF no satisfying assignment, whoever wrote it"; and of the call.
 pub refuted : (cs : List Clause) (ss : List Step) → judge-steps cs ss ≡ granted 0 → (a : Assignment) → Satisfies a cs → ⊥

@@ -5,13 +5,13 @@ use mathlib.Core.List.{List, [], _∷_, _++_}
 use Prim.Native.Nat.{ℕ, suc}
 use borrow.Author.Tests.{eqb-false, not-true}
 use lib.IntN.{ℤ}
-use lib.Dec.{eqb}
-use lib.ListN.{length}
+use lib.Dec.{eqb, leb}
+use lib.ListN.{length, take}
 use Rattle.clauses.specs.Lists.{all-of, numbered, joined}
-use Rattle.clauses.specs.Answers.{Answer, Check, check, first-failing, first-failing-part, granted}
-use Rattle.clauses.specs.Clauses.{Clause}
-use Rattle.clauses.specs.CnfWords.{clauses-of, cnf-checks}
-use Rattle.clauses.specs.Refutations.{Step, refutation-checks, step-checks, area-checks, closing-checks, steps-of, last-is-empty, judge-steps, judge-clauses, judge-cnf, judged}
+use Rattle.clauses.specs.Answers.{Answer, Check, answer, check, first-failing, first-failing-part, granted, bad-cnf, bad-refutation}
+use Rattle.clauses.specs.Clauses.{Clause, size}
+use Rattle.clauses.specs.CnfWords.{clauses-of, ended, cnf-checks}
+use Rattle.clauses.specs.Refutations.{Step, zeros, word-right, whole, refutation-checks, step-checks, area-checks, closing-checks, steps-of, last-is-empty, judge-steps, judge-clauses, judge-cnf, judged}
 use Rattle.clauses.proofs.Satisfaction.{both-true, first-true, second-true, all-of-append, all-of-numbered}
 
 -- ════════ Answers ════════
@@ -60,6 +60,10 @@ passed-by-number k (c ∷ cs) after o e =
 pub number-after : (k : ℕ) (cs : List Check) (after : Answer) → all-of (other-than k) cs ≡ true → first-failing cs after .number ≡ k → after .number ≡ k
 number-after k cs after o e = sym (number-of (first-failing-passed cs after (passed-by-number k cs after o e))) ∙ e
 
+pub after-by-number : (k : ℕ) (cs : List Check) (after : Answer) {p : ℕ} → all-of (other-than k) cs ≡ true
+    → first-failing cs after ≡ answer k p → after ≡ answer k p
+after-by-number k cs after o e = sym (first-failing-passed cs after (passed-by-number k cs after o (number-of e))) ∙ e
+
 -- An answer of yes comes from checks that all pass.
 pub all-pass-if-yes : (cs : List Check) (after : Answer) → all-of refusing cs ≡ true
     → (first-failing cs after) .number ≡ 0 → all-of passing cs ≡ true
@@ -72,7 +76,7 @@ all-pass-if-granted cs after r e = all-pass-if-yes cs after r (number-of e)
 -- And it is the answer of what comes after them.
 pub after-if-granted : (cs : List Check) (after : Answer) {p : ℕ} → all-of refusing cs ≡ true
     → first-failing cs after ≡ granted p → after ≡ granted p
-after-if-granted cs after r e = sym (first-failing-passed cs after (all-pass-if-granted cs after r e)) ∙ e
+after-if-granted = after-by-number 0
 
 -- A refusal does not depend on what comes after the checks.
 pub refused-anyway : (cs : List Check) (a b : Answer) {x : Answer} → x ≡ first-failing cs a → (x ≡ a → ⊥) → x ≡ first-failing cs b
@@ -103,17 +107,38 @@ numbered-passing t a i (x ∷ xs) = rw (numbered-passing t a (suc i) xs)
 
 -- ════════ The judges' checks ════════
 
+-- Their answers are 16, 11 and 12, and no other.
+module _ (k : ℕ) where
+  words-other : (ws : List ℤ) (f : ℕ → ℤ → Check) (last : Check) → ((i : ℕ) (w : ℤ) → other-than k (f i w) ≡ true) → other-than k last ≡ true
+      → all-of (other-than k) (numbered 0 ws f ++ (last ∷ [])) ≡ true
+  words-other ws f last each e =
+      all-of-append (other-than k) (numbered 0 ws f) (last ∷ []) ∙ both-true (all-of-numbered (other-than k) 0 ws f each) (both-true e refl)
+
+  pub cnf-checks-other : not (eqb 16 k) ≡ true → (variables : ℕ) (ws : List ℤ) → all-of (other-than k) (cnf-checks variables ws) ≡ true
+  unfolding cnf-checks
+  cnf-checks-other e variables ws =
+      both-true e
+      (words-other ws (λ i w. check (leb (size w) variables) (bad-cnf i)) (check (ended ws) (bad-cnf (length ws))) (λ i w. e) e)
+
+  pub refutation-checks-other : not (eqb 11 k) ≡ true → (variables C : ℕ) (ws : List ℤ) → all-of (other-than k) (refutation-checks variables C ws) ≡ true
+  unfolding refutation-checks
+  refutation-checks-other e variables C ws =
+      words-other ws (λ i w. check (word-right variables C (zeros (take i ws)) w) (bad-refutation i)) (check (whole ws) (bad-refutation (length ws)))
+      (λ i w. e) e
+
+  pub area-checks-other : not (eqb 12 k) ≡ true → (variables : ℕ) (cs : List Clause) (ss : List Step) (m n : ℕ)
+      → all-of (other-than k) (area-checks variables cs ss m n) ≡ true
+  unfolding area-checks
+  area-checks-other e variables cs ss m n = both-true e (both-true e refl)
+
 pub cnf-checks-refusing : (variables : ℕ) (ws : List ℤ) → all-of refusing (cnf-checks variables ws) ≡ true
-unfolding cnf-checks
-cnf-checks-refusing variables ws = rw all-of-append (both-true (all-of-numbered refusing 0 ws _ (λ i w. refl)) refl)
+cnf-checks-refusing = cnf-checks-other 0 refl
 
 pub refutation-checks-refusing : (variables C : ℕ) (ws : List ℤ) → all-of refusing (refutation-checks variables C ws) ≡ true
-unfolding refutation-checks
-refutation-checks-refusing variables C ws = rw all-of-append (both-true (all-of-numbered refusing 0 ws _ (λ i w. refl)) refl)
+refutation-checks-refusing = refutation-checks-other 0 refl
 
 pub area-checks-refusing : (variables : ℕ) (cs : List Clause) (ss : List Step) (m n : ℕ) → all-of refusing (area-checks variables cs ss m n) ≡ true
-unfolding area-checks
-area-checks-refusing variables cs ss m n = refl
+area-checks-refusing = area-checks-other 0 refl
 
 pub step-checks-refusing : (cs : List Clause) (i : ℕ) (ss : List Step) → all-of refusing (step-checks cs i ss) ≡ true
 step-checks-refusing cs i [] = refl

@@ -5,9 +5,12 @@ pub mod PutAt
 pub mod Answers
 pub mod WordByWord
 pub mod Lookups
+pub mod StepRule
+pub mod NeverAHint
 pub mod Sound
 pub mod ReadBack
 pub mod Derivations
+pub mod StepByStep
 pub mod Splits
 pub mod Complete
 pub mod CnfPassed

@@ -2,15 +2,15 @@
 use mathlib.Core.Path.{_≡_, refl, sym, _∙_, ap}
 use mathlib.Core.Logic.{_⊎_, inl, inr}
 use mathlib.Core.Bool.{Bool, true, false, not, _&&_, _||_, false≢true, true≢false, and-assoc, or-assoc, Bool·not-not, cond}
-use mathlib.Core.List.{List, [], _∷_, _++_, map, List·Memᴰ, List·Memᴰ·head, List·Memᴰ·tail, List·Memᴰ·cases-cons, Memᴰ·cast}
+use mathlib.Core.List.{List, [], _∷_, _++_, map, List·Memᴰ, List·Memᴰ·head, List·Memᴰ·tail, List·Memᴰ·not-nil, List·Memᴰ·cases-cons, Memᴰ·cast}
 use Prim.Native.Nat.{ℕ, zero, suc, _≤_, _<_, zero-le, suc-le-suc}
 use native.Mathlib.Nat.{le-of-suc-le-suc, not-suc-le-zero}
 use native.Mathlib.Omega.{arith}
-use borrow.Author.Tests.{not-true, eqb-true, eq-eqb}
+use borrow.Author.Tests.{not-true, eqb-true, eq-eqb, ne-eqb}
 use lib.IntN.{ℤ, pos, negsuc, negℤ-negℤ}
 use lib.Dec.{eqb}
 use lib.ListN.{getD, length}
-use Rattle.clauses.specs.Lists.{some-of, all-of, those, numbered}
+use Rattle.clauses.specs.Lists.{some-of, all-of, those, numbered, empty}
 use Rattle.clauses.specs.Clauses.{Clause, Assignment, negated, variable-of, literal-true, clause-true, Satisfies, same, among}
 use Rattle.clauses.specs.CnfWords.{is-0}
 
@@ -49,6 +49,10 @@ pub eqb-self : (n : ℕ) → eqb n n ≡ true
 eqb-self n = eq-eqb n n refl
 
 -- ════════ Tests on lists ════════
+
+pub no-elements : {A : Type 0} (xs : List A) → eqb (length xs) 0 ≡ empty xs
+no-elements [] = eqb-self 0
+no-elements (x ∷ xs) = ne-eqb (suc (length xs)) 0 (λ e. omega arith)
 
 module _ {A : Type 0} (f : A → Bool) where
   pub all-of-append : (xs ys : List A) → all-of f (xs ++ ys) ≡ all-of f xs && all-of f ys
@@ -202,6 +206,15 @@ member-if-among w ws e = let v = some-of-witness (same w) ws e in Memᴰ·cast (
 
 pub negated-negated : (w : ℤ) → negated (negated w) ≡ w
 negated-negated = negℤ-negℤ
+
+pub member-of-negated : (w : ℤ) (c : Clause) → List·Memᴰ w (map negated c) → List·Memᴰ (negated w) c
+member-of-negated w [] m = absurd (List·Memᴰ·not-nil m)
+member-of-negated w (v ∷ c) m = go (List·Memᴰ·cases-cons m) (member-of-negated w c)
+  where
+    go : (w ≡ negated v) ⊎ List·Memᴰ w (map negated c) → (List·Memᴰ w (map negated c) → List·Memᴰ (negated w) c)
+        → List·Memᴰ (negated w) (v ∷ c)
+    go (inl p) later = List·Memᴰ·head (ap negated p ∙ negated-negated v)
+    go (inr m′) later = List·Memᴰ·tail (later m′)
 
 pub variable-of-negated : (w : ℤ) → variable-of (negated w) ≡ variable-of w
 variable-of-negated (pos zero) = refl

@@ -14,6 +14,7 @@ use Rattle.clauses.specs.CnfWords.{clauses-of, is-0}
 use Rattle.clauses.specs.Refutations.{Step, Lookup, SatisfiesNamed, Outcome, conflict, unit, neither, both-signs, not-false, outcome-of, outcome, outcome-if-any, clause-numbered, hint-outcome, hints-conflict, step-accepted, with-step, step-checks, last-is-empty, judge-steps, judge-clauses, judge-cnf, steps-of}
 use Rattle.clauses.proofs.Satisfaction.{both-true, first-true, second-true, or-second, not-both, false-if-not-true, all-of-member, all-of-if-member, all-of-map, those-member, eq-if-same, member-if-among, not-true-both-ways, satisfies-append, true-literal, false-literal}
 use Rattle.clauses.proofs.Lookups.{numbered-satisfied}
+use Rattle.clauses.proofs.StepRule.{by-hints, trivially-true}
 use Rattle.clauses.proofs.Answers.{passing, steps-granted, clauses-granted, cnf-granted}
 
 -- ════════ What a hint gives is true ════════
@@ -89,14 +90,14 @@ negations-true a c f = rw all-of-map (all-of-if-member _ c (λ w m. negation-tru
 
 -- An assignment that satisfies the clauses that hints can name satisfies an accepted step's clause.
 pub step-sound : (named : Lookup) (s : Step) → step-accepted named s ≡ true → (a : Assignment) → SatisfiesNamed a named → clause-true a (s .clause) ≡ true
-unfolding step-accepted
-step-sound named s e a sat = go (clause-true a (s .clause)) refl
+step-sound named s e a sat = go (both-signs (s .clause)) refl (clause-true a (s .clause)) refl
   where
-    go : (b : Bool) → clause-true a (s .clause) ≡ b → b ≡ true
-    go true p = refl
-    go false p =
-        absurd (not-both (second-true (not (both-signs (s .clause))) _ e)
-        (no-conflict a named sat (s .hints) (map negated (s .clause)) (negations-true a (s .clause) p)))
+    go : (signs : Bool) → both-signs (s .clause) ≡ signs → (b : Bool) → clause-true a (s .clause) ≡ b → b ≡ true
+    go true p b q = sym q ∙ trivially-true (s .clause) p a
+    go false p true q = refl
+    go false p false q =
+        absurd (not-both (sym (by-hints named s p) ∙ e)
+        (no-conflict a named sat (s .hints) (map negated (s .clause)) (negations-true a (s .clause) q)))
 
 -- The same over the clauses so far.
 pub next-sound : (cs : List Clause) (s : Step) → step-accepted (clause-numbered cs) s ≡ true → (a : Assignment) → Satisfies a cs

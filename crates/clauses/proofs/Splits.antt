@@ -1,7 +1,7 @@
 -- The clause that denies values of variables, and when the rule accepts it. Assumes nothing.
 use mathlib.Core.Path.{_≡_, refl, sym, _∙_, ap}
 use mathlib.Core.Logic.{_⊎_, inl, inr}
-use mathlib.Core.Bool.{Bool, true, false, not, _&&_, false≢true, Bool·not-not}
+use mathlib.Core.Bool.{Bool, true, false, not, false≢true, Bool·not-not}
 use mathlib.Core.List.{List, [], _∷_, map, List·Memᴰ, List·Memᴰ·head, List·Memᴰ·tail, List·Memᴰ·not-nil, List·Memᴰ·cases-cons, Memᴰ·cast, Memᴰ·map}
 use Prim.Native.Nat.{ℕ, zero, suc, _+_, _≤_, _<_}
 use native.Mathlib.Nat.{le-refl, not-suc-le-zero, le-of-suc-le-suc, add-zero, zero-add}
@@ -12,10 +12,10 @@ use lib.Dec.{leb}
 use lib.ListN.{length, getD}
 use Rattle.clauses.specs.Lists.{all-of}
 use Rattle.clauses.specs.Clauses.{Clause, Assignment, negated, variable-of, literal-true, clause-true, literal-within, among}
-use Rattle.clauses.specs.CnfWords.{is-0}
-use Rattle.clauses.specs.Refutations.{step, both-signs, not-false, unit, outcome-of, outcome, hint-outcome, hints-conflict, step-accepted, clause-numbered}
-use Rattle.clauses.proofs.Satisfaction.{both-true, second-true, false-if-not-true, some-of-witness, all-of-member, negated-negated, among-if-member, member-if-among, false-literal, variable-of-negated}
+use Rattle.clauses.specs.Refutations.{step, both-signs, not-false, unit, outcome-of, outcome, hint-outcome, hints-conflict, clause-numbered}
+use Rattle.clauses.proofs.Satisfaction.{both-true, second-true, false-if-not-true, all-of-member, among-if-member, member-if-among, member-of-negated, false-literal, variable-of-negated}
 use Rattle.clauses.proofs.Lookups.{numbered-some}
+use Rattle.clauses.proofs.StepRule.{by-hints, clash}
 use Rattle.clauses.proofs.Derivations.{names-one-of, RightStep}
 
 -- ════════ The clause that denies values ════════
@@ -73,14 +73,11 @@ not-both-ways i (b ∷ bs) w m n = go (List·Memᴰ·cases-cons m) (List·Memᴰ
         omega arith
     go (inr m′) (inr n′) later = later m′ n′
 
-denials-one-sign : (i : ℕ) (bs : List Bool) → not (both-signs (denials i bs)) ≡ true
-denials-one-sign i bs = ap not (false-if-not-true (both-signs (denials i bs)) both)
+denials-one-sign : (i : ℕ) (bs : List Bool) → both-signs (denials i bs) ≡ false
+denials-one-sign i bs = false-if-not-true (both-signs (denials i bs)) both
   where
     both : both-signs (denials i bs) ≡ true → ⊥
-    both e =
-        let v = some-of-witness (λ w. not (is-0 w) && among (negated w) (denials i bs)) (denials i bs) e in
-        let denied = second-true (not (is-0 (v .0))) (among (negated (v .0)) (denials i bs)) (v .2) in
-        not-both-ways i bs (v .0) (v .1) (member-if-among (negated (v .0)) (denials i bs) denied)
+    both e = let k = clash (denials i bs) e in not-both-ways i bs (k .literal) (k .there) (k .other)
 
 -- ════════ Literals that are not false ════════
 
@@ -91,15 +88,6 @@ none-not-false trues (w ∷ c) h =
 
 self-denied : (c : Clause) → not-false (map negated c) c ≡ []
 self-denied c = none-not-false (map negated c) c (λ w m. Memᴰ·map negated m)
-
-member-of-negated : (w : ℤ) (c : Clause) → List·Memᴰ w (map negated c) → List·Memᴰ (negated w) c
-member-of-negated w [] m = absurd (List·Memᴰ·not-nil m)
-member-of-negated w (v ∷ c) m = go (List·Memᴰ·cases-cons m) (member-of-negated w c)
-  where
-    go : (w ≡ negated v) ⊎ List·Memᴰ w (map negated c) → (List·Memᴰ w (map negated c) → List·Memᴰ (negated w) c)
-        → List·Memᴰ (negated w) (v ∷ c)
-    go (inl p) later = List·Memᴰ·head (ap negated p ∙ negated-negated v)
-    go (inr m′) later = List·Memᴰ·tail (later m′)
 
 -- A variable before those of the values has no value yet.
 no-value-yet : (i : ℕ) (bs : List Bool) (w : ℤ) → variable-of w ≤ i → among w (map negated (denials i bs)) ≡ false
@@ -150,9 +138,8 @@ module _ (variables : ℕ) (cs : List Clause) where
   -- All values given, and a clause that is false under them.
   pub leaf-right : (a : Assignment) (n : ℕ) → length a ≡ variables → n < length cs → all-of (literal-within variables) (getD cs n []) ≡ true
       → clause-true a (getD cs n []) ≡ false → RightStep variables cs (step (denials 0 a) (suc n ∷ []))
-  unfolding step-accepted
   leaf-right a n e l w f = record {
-    accepted = both-true (denials-one-sign 0 a) (conflict-at cs (map negated (denials 0 a)) n l all-false);
+    accepted = by-hints (clause-numbered cs) _ (denials-one-sign 0 a) ∙ conflict-at cs (map negated (denials 0 a)) n l all-false;
     within = denials-within variables 0 a (omega arith);
     earlier = both-true (names-clause cs [] n l) refl;
   }
@@ -167,9 +154,8 @@ module _ (variables : ℕ) (cs : List Clause) where
   pub split-right : (i : ℕ) (bs : List Bool) (m n : ℕ) → suc i + length bs ≤ variables → m < length cs → n < length cs
       → getD cs m [] ≡ denials i (false ∷ bs) → getD cs n [] ≡ denials i (true ∷ bs)
       → RightStep variables cs (step (denials (suc i) bs) (suc m ∷ suc n ∷ []))
-  unfolding step-accepted
   split-right i bs m n l lm ln p q = record {
-    accepted = both-true (denials-one-sign (suc i) bs) (first-hint ∙ second-hint);
+    accepted = by-hints (clause-numbered cs) _ (denials-one-sign (suc i) bs) ∙ first-hint ∙ second-hint;
     within = denials-within variables (suc i) bs l;
     earlier = both-true (names-clause cs [] m lm) (both-true (names-clause cs [] n ln) refl);
   }

@@ -1,4 +1,4 @@
--- Document 01, "Refutations": words read as steps, the rule for one step, and the judge for any CNF. Assumes nothing.
+-- Document 01, "Refutations", and document 02, Q-4: words read as steps, the rule for one step, and the judge for any CNF. Assumes nothing.
 use mathlib.Core.Bool.{Bool, true, false, not, cond, _&&_, _||_}
 use mathlib.Core.List.{List, [], _∷_, _++_, map}
 use mathlib.Core.Option.{Option, none, some}
@@ -117,9 +117,10 @@ hints-conflict named trues (h ∷ hs) =
       | neither ↦ false
     ]
 
--- "A step whose clause has a variable with both signs is refused. Otherwise set its literals false and take the hints in order."
+-- Document 02, Q-4, of "a step whose clause has a variable with both signs": "accepted if it has no hints", "refused with 13 if it has any".
+-- "Otherwise set its literals false and take the hints in order."
 unfoldable pub step-accepted : Lookup → Step → Bool
-step-accepted named s = not (both-signs (s .clause)) && hints-conflict named (map negated (s .clause)) (s .hints)
+step-accepted named s = cond (both-signs (s .clause)) (empty (s .hints)) (hints-conflict named (map negated (s .clause)) (s .hints))
 
 -- ════════ The judge ════════
 

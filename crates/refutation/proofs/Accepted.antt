@@ -5,11 +5,13 @@ use mathlib.Core.List.{List, [], _∷_, map}
 use Prim.Native.Nat.{ℕ, suc, _+_, _<_, _≤_}
 use native.Mathlib.Numerals.{add-one}
 use native.Mathlib.Omega.{arith}
-use borrow.Author.Tests.{not-true, eq-eqb, ne-eqb}
+use borrow.Author.Tests.{not-true, not-false, eq-eqb, ne-eqb}
 use lib.IntN.{ℤ, pos}
 use lib.Dec.{eqb}
-use lib.ListN.{length, drop, length-drop, drop-of-length-le}
+use lib.ListN.{length, drop, length-drop, length-map, drop-of-length-le}
 use lib.Seq.{drop-cons}
+use Rattle.clauses.proofs.Satisfaction.{no-elements}
+use Rattle.clauses.proofs.StepRule.{by-no-hints, by-hints}
 use Rattle.clauses.specs.Lists.{empty}
 use Rattle.clauses.specs.Clauses.{Clause, negated, variable-of, among}
 use Rattle.clauses.specs.Refutations.{Lookup, Outcome, conflict, unit, neither, both-signs, hint-outcome, hints-conflict, step, step-accepted}
@@ -29,15 +31,16 @@ pub record HintsTaken (variables stamp : ℕ) (named : Lookup) (clause hints : L
   pub values : Values variables stamp trues area
   pub left : step-accepted named (step clause (map variable-of hints)) ≡ hints-conflict named trues (map variable-of (drop i hints))
 
-pub both-signs-refused : (named : Lookup) (clause : Clause) (hs : List ℕ) → false ≡ not (both-signs clause)
-    → false ≡ step-accepted named (step clause hs)
-unfolding step-accepted
-both-signs-refused named clause hs e = rw (← e)
+pub both-signs-judged : (named : Lookup) (clause hints : List ℤ) → false ≡ not (both-signs clause)
+    → eqb (length hints) 0 ≡ step-accepted named (step clause (map variable-of hints))
+both-signs-judged named clause hints e =
+    ap (λ (n : ℕ). eqb n 0) (sym (length-map hints variable-of))
+    ∙ no-elements (map variable-of hints)
+    ∙ sym (by-no-hints named (step clause (map variable-of hints)) (not-false (both-signs clause) (sym e)))
 
 pub none-taken : {variables stamp : ℕ} (named : Lookup) (clause hints : List ℤ) {area : List ℕ} → true ≡ not (both-signs clause)
     → Older variables (suc stamp) area → Values variables stamp (map negated clause) area
     → HintsTaken variables stamp named clause hints area area 0
-unfolding step-accepted
 none-taken named clause hints e old vs =
     record {
       inside = omega arith;
@@ -45,7 +48,7 @@ none-taken named clause hints e old vs =
       marked = record { not-later = old; past = refl };
       trues = map negated clause;
       values = vs;
-      left = rw (← e);
+      left = by-hints named (step clause (map variable-of hints)) (not-true (both-signs clause) (sym e));
     }
 
 none-left : (hs : List ℤ) (n m : ℕ) → m ≡ n + length hs → eqb n m ≡ empty (map variable-of hs)

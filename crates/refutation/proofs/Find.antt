@@ -12,17 +12,14 @@ use mir.Syntax.{w32}
 use mir.Val.{SFits, toZ, ofZ}
 use mir.Facts.{toZ-ofZ}
 use Rattle.clauses.proofs.Satisfaction.{false-if-not-true, all-of-append, same-self, eq-if-same, those-append, variable-of-negated}
+use Rattle.clauses.proofs.StepRule.{is-unit}
 use Rattle.clauses.specs.Lists.{all-of}
 use Rattle.clauses.specs.Clauses.{negated, variable-of, same, among}
 use Rattle.clauses.specs.Refutations.{Outcome, conflict, unit, neither, not-false, outcome-of, outcome}
 use Rattle.refutation.specs.Work.{mark-of, cell, Values}
 use Rattle.refutation.proofs.ClauseLiterals.{LiteralAt, literal-at, within-at, within-at-least, within-negated, take-more}
 
--- A list with a first literal gives that literal, or neither; never the conflict.
-pub is-unit : (b : Bool) (u x : ℤ) → cond b (unit u) neither ≡ unit x → (b ≡ true) × (u ≡ x)
-is-unit true u x e = (refl, cc)
-is-unit false u x e = absurd (let z : _≡_ {A = ℕ} 0 1 = cc in omega arith)
-
+-- A list with a first literal never gives the conflict.
 no-conflict : (b : Bool) (u : ℤ) → cond b (unit u) neither ≡ conflict → ⊥
 no-conflict true u e = let z : _≡_ {A = ℕ} 0 1 = cc in omega arith
 no-conflict false u e = let z : _≡_ {A = ℕ} 0 1 = cc in omega arith

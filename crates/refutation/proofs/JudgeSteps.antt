@@ -5,12 +5,11 @@ use mathlib.Core.List.{List, [], _∷_, _++_, map, append-assoc, append-nil}
 use Prim.Native.Nat.{ℕ, suc, _+_, _<_, _≤_}
 use native.Mathlib.Numerals.{add-one}
 use native.Mathlib.Omega.{arith}
-use borrow.Author.Tests.{eq-eqb, ne-eqb}
 use lib.IntN.{ℤ}
 use lib.Dec.{eqb}
 use lib.ListN.{length, drop, set, length-set}
 use lib.Seq.{drop-set-lt}
-use Rattle.clauses.proofs.Satisfaction.{both-true, all-of-append}
+use Rattle.clauses.proofs.Satisfaction.{no-elements, both-true, all-of-append}
 use Rattle.clauses.specs.Lists.{all-of, empty}
 use Rattle.clauses.specs.Answers.{Answer, check, first-failing-part, granted, step-refused, not-closed}
 use Rattle.clauses.specs.Clauses.{Clause, variable-of, literal-within}
@@ -49,10 +48,6 @@ module _ (cs : List Clause) (s : ℕ) (closed : Bool) (total : ℕ) (t : Step) (
   left-accepted : step-accepted (clause-numbered cs) t ≡ true
       → answer-left cs s closed total (t ∷ ts) ≡ answer-left (with-step cs t) (suc s) (empty (t .clause)) total ts
   left-accepted e = rw (e, last-next)
-
-no-literals : (c : Clause) → eqb (length c) 0 ≡ empty c
-no-literals [] = eq-eqb 0 0 refl
-no-literals (w ∷ c) = ne-eqb (suc (length c)) 0 (λ e. omega arith)
 
 -- ════════ One step more ════════
 
@@ -165,6 +160,6 @@ module _ {variables : ℕ} {cnf ws : List ℤ} {clauses : ℕ} {values₀ places
               places-long = length-set places (clauses + done) at ∙ j .places-long;
               places-past = drop-set-lt (clauses + length (steps-of ws)) places (clauses + done) at step-room ∙ j .places-past;
               left =
-                  rw (more, add-one done, no-literals)
+                  rw (more, add-one done, no-elements)
                   (j .left ∙ rw (steps-here (j .words) l) (left-accepted (known cnf ws done) done closed (length (steps-of ws)) here others yes));
             })

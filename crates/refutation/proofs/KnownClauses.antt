@@ -1,23 +1,22 @@
 -- The clauses that a step's hints can name, by what is written down of them, and what a hint gives. Assumes nothing.
-use mathlib.Core.Path.{_≡_, sym, _∙_, ap}
-use mathlib.Core.Bool.{Bool, true, false, not, _&&_}
+use mathlib.Core.Path.{_≡_, refl, sym, _∙_, ap}
+use mathlib.Core.Bool.{false}
 use mathlib.Core.List.{List, [], _∷_}
 use Prim.Native.Nat.{ℕ, suc, _+_, _-_, _<_, _≤_}
 use native.Mathlib.Decide.{decLe}
 use native.Mathlib.Omega.{arith}
-use borrow.Author.Tests.{not-true}
 use lib.IntN.{ℤ}
 use lib.ListN.{length, getD, take, length-append, length-map}
 use lib.Seq.{length-take-le}
 use Rattle.clauses.proofs.Lookups.{numbered-some}
-use Rattle.clauses.proofs.Satisfaction.{first-true, second-true, all-of-at, those-pass, all-of-member, all-of-if-member, of-those}
-use Rattle.clauses.specs.Lists.{all-of, those}
-use Rattle.clauses.specs.Clauses.{Clause, negated, literal-within, same, among}
+use Rattle.clauses.proofs.Satisfaction.{both-true, all-of-at, all-of-member}
+use Rattle.clauses.proofs.StepRule.{unit-open}
+use Rattle.clauses.specs.Lists.{all-of}
+use Rattle.clauses.specs.Clauses.{Clause, negated, literal-within, among}
 use Rattle.clauses.specs.CnfWords.{clauses-of}
-use Rattle.clauses.specs.Refutations.{unit, not-false, outcome-of, outcome, clause-numbered, hint-outcome, steps-of}
+use Rattle.clauses.specs.Refutations.{unit, outcome, clause-numbered, hint-outcome, steps-of}
 use Rattle.refutation.specs.Work.{LiteralsWithin, clause-from, step-clauses, known, Standing}
 use Rattle.refutation.proofs.ClausePlaces.{lookup-inside, places-lookup}
-use Rattle.refutation.proofs.Find.{is-unit}
 
 -- ════════ A unit ════════
 
@@ -27,27 +26,14 @@ pub record Unset (variables : ℕ) (trues : List ℤ) (u : ℤ) : Type 0 where
   pub not-true : among u trues ≡ false
   pub not-false : among (negated u) trues ≡ false
 
-those-kept : (f g : ℤ → Bool) (c : Clause) → all-of f c ≡ true → all-of f (those g c) ≡ true
-those-kept f g c e = all-of-if-member f (those g c) (λ w m. all-of-member f (of-those g c m) e)
-
 pub unit-unset : (variables : ℕ) (trues : List ℤ) (c : Clause) {u : ℤ} → LiteralsWithin variables c → outcome trues c ≡ unit u → Unset variables trues u
-unit-unset variables trues c {u} inside e =
-    go (not-false trues c) (those-kept (literal-within variables) is-not-false c inside) (those-pass is-not-false c) e
-  where
-    is-not-false : ℤ → Bool
-    is-not-false w = not (among (negated w) trues)
-
-    go : (us : List ℤ) → all-of (literal-within variables) us ≡ true → all-of is-not-false us ≡ true → outcome-of trues us ≡ unit u
-        → Unset variables trues u
-    go [] a b f = absurd (let z : _≡_ {A = ℕ} 0 1 = cc in omega arith)
-    go (v ∷ vs) a b f =
-        let is = is-unit (all-of (same v) vs && not (among v trues)) v u f in
-        rw (← is .1)
-        (record {
-          inside = rw (first-true (literal-within variables v) (all-of (literal-within variables) vs) a);
-          not-true = not-true (among v trues) (second-true (all-of (same v) vs) (not (among v trues)) (is .0));
-          not-false = not-true (among (negated v) trues) (first-true (is-not-false v) (all-of is-not-false vs) b);
-        })
+unit-unset variables trues c inside e =
+    let o = unit-open trues c e in
+    record {
+      inside = both-true (all-of-member (literal-within variables) (o .of-clause) inside) refl;
+      not-true = o .no-true;
+      not-false = o .no-false;
+    }
 
 -- ════════ By the places that are written down ════════
 

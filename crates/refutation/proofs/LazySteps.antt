@@ -1,6 +1,6 @@
 -- Judges that follow a wrong rule for a step do not meet the promise. Each is right but for its rule. Assumes nothing.
 use mathlib.Core.Path.{_≡_, refl}
-use mathlib.Core.Bool.{Bool, true, false, not, cond, _&&_, _||_}
+use mathlib.Core.Bool.{Bool, true, false, not, cond, _||_}
 use mathlib.Core.List.{List, [], _∷_, map}
 use mathlib.Core.Option.{Option·getD}
 use Prim.Native.Nat.{ℕ, suc, _+_}
@@ -10,9 +10,9 @@ use lib.Dec.{eqb}
 use lib.ListN.{length}
 use Rattle.clauses.specs.Lists.{all-of, empty}
 use Rattle.clauses.specs.Answers.{check, first-failing-part, granted, not-closed}
-use Rattle.clauses.specs.Clauses.{Clause, minus, negated, same}
+use Rattle.clauses.specs.Clauses.{Clause, negated, same}
 use Rattle.clauses.specs.CnfWords.{clauses-of}
-use Rattle.clauses.specs.Refutations.{Step, steps-of, both-signs, clause-numbered, not-false, Outcome, conflict, unit, neither, outcome, hints-conflict, step-accepted, step-checks, with-step, last-is-empty-after, judge-steps}
+use Rattle.clauses.specs.Refutations.{Step, steps-of, both-signs, clause-numbered, not-false, Outcome, conflict, unit, neither, outcome, step-accepted, step-checks, with-step, last-is-empty-after, judge-steps}
 use Rattle.refutation.specs.Promise.{answer-of}
 use Rattle.refutation.specs.declared.RefutationAnswer.{RefutationAnswer}
 use Rattle.refutation.specs.declared.RefutationAnswer.the-variants.{Yes, StepRefused, NotClosed}
@@ -24,15 +24,19 @@ use Rattle.refutation.proofs.Lazy.{Input, Wrong, laid-down, wrong-numbe
 abbrev pub Rule : Type 0
 Rule = List Clause → ℕ → Step → List Step → Bool
 
+-- How an accepted step's clause joins those so far.
+abbrev pub Adding : Type 0
+Adding = List Clause → Step → List Clause
+
 -- The steps from number i on; `closed` says whether the clause before them is empty.
-abbrev pub steps-by : Rule → List Clause → ℕ → Bool → List Step → RefutationAnswer
-steps-by rule cs i closed [] = cond closed Yes (NotClosed i)
-steps-by rule cs i closed (s ∷ ss) =
-    cond (rule cs i s ss) (steps-by rule (with-step cs s) (suc i) (empty (s .clause)) ss) (StepRefused i)
+abbrev pub steps-by : Adding → Rule → List Clause → ℕ → Bool → List Step → RefutationAnswer
+steps-by adds rule cs i closed [] = cond closed Yes (NotClosed i)
+steps-by adds rule cs i closed (s ∷ ss) =
+    cond (rule cs i s ss) (steps-by adds rule (adds cs s) (suc i) (empty (s .clause)) ss) (StepRefused i)
 
 -- What a judge by this rule answers, where the words and the work areas are right.
 abbrev pub answer-by : Rule → Input → RefutationAnswer
-answer-by rule x = steps-by rule (clauses-of (x .cnf)) 0 false (steps-of (x .refutation))
+answer-by rule x = steps-by with-step rule (clauses-of (x .cnf)) 0 false (steps-of (x .refutation))
 
 abbrev pub the-rule : Rule
 the-rule cs i s ss = step-accepted (clause-numbered cs) s
@@ -43,7 +47,7 @@ answer-cond false p q = refl
 
 -- The checks of steps from number i on, with the closing check after them.
 steps-by-rule : (cs : List Clause) (i total : ℕ) (closed : Bool) (s : Step) (ss : List Step) → total ≡ suc i + length ss
-    → answer-of (steps-by the-rule cs i closed (s ∷ ss))
+    → answer-of (steps-by with-step the-rule cs i closed (s ∷ ss))
     ≡ first-failing-part (step-checks cs i (s ∷ ss) ∷ (check (last-is-empty-after s ss) (not-closed total) ∷ []) ∷ []) (granted 0)
 steps-by-rule cs i total closed s [] e =
     let t : total ≡ suc i = omega arith in
@@ -51,8 +55,8 @@ steps-by-rule cs i total closed s [] e =
 steps-by-rule cs i total closed s (t ∷ ts) e =
     rw (answer-cond (step-accepted (clause-numbered cs) s), steps-by-rule (with-step cs s) (suc i) total (empty (s .clause)) t ts (omega arith))
 
--- By the rule of document 01 the answer is the one laid down, so a wrong rule is all that is wrong below.
-pub the-rule-right : (cs : List Clause) (ss : List Step) → answer-of (steps-by the-rule cs 0 false ss) ≡ judge-steps cs ss
+-- By the rule that is laid down the answer is, too, so a wrong rule is all that is wrong below.
+pub the-rule-right : (cs : List Clause) (ss : List Step) → answer-of (steps-by with-step the-rule cs 0 false ss) ≡ judge-steps cs ss
 unfolding judge-steps
 the-rule-right cs [] = refl
 the-rule-right cs (s ∷ ss) = steps-by-rule cs 0 (length (s ∷ ss)) false s ss (omega arith)
@@ -115,9 +119,13 @@ hints-by gives at-conflict at-end cs trues (h ∷ hs) =
       | neither ↦ false
     ]
 
+-- A clause with both signs is judged as laid down, any other by its hints.
+abbrev pub of-hints : (List Clause → List ℤ → List ℕ → Bool) → Rule
+of-hints says cs i s ss = cond (both-signs (s .clause)) (empty (s .hints)) (says cs (map negated (s .clause)) (s .hints))
+
 -- A conflict passes the step wherever it stands.
 abbrev pub any-conflict : Rule
-any-conflict cs i s ss = not (both-signs (s .clause)) && hints-by outcome (λ hs. true) false cs (map negated (s .clause)) (s .hints)
+any-conflict = of-hints (hints-by outcome (λ hs. true) false)
 
 -- 0 2 12 5 2 0: the conflict is hint 5, and hint 2 comes after it. 13 at 0 is right, and this judge says yes.
 abbrev pub early-conflict : Input
@@ -133,8 +141,7 @@ unit-or-true [] = conflict
 unit-or-true (u ∷ us) = cond (all-of (same u) us) (unit u) neither
 
 abbrev pub true-is-unit : Rule
-true-is-unit cs i s ss =
-    not (both-signs (s .clause)) && hints-by (λ trues c. unit-or-true (not-false trues c)) empty false cs (map negated (s .clause)) (s .hints)
+true-is-unit = of-hints (hints-by (λ trues c. unit-or-true (not-false trues c)) empty false)
 
 -- 0 2 2 12 5 0: clause 2 is true when its hint comes again. 13 at 0 is right, and this judge says yes.
 abbrev pub hint-again : Input
@@ -146,7 +153,7 @@ true-hint-breaks = wrong-number hint-again Yes (λ e. omega arith)
 
 -- Units are enough, without a conflict.
 abbrev pub no-conflict-needed : Rule
-no-conflict-needed cs i s ss = not (both-signs (s .clause)) && hints-by outcome empty true cs (map negated (s .clause)) (s .hints)
+no-conflict-needed = of-hints (hints-by outcome empty true)
 
 -- 0 2 12 0: two units and no conflict. 13 at 0 is right, and this judge says yes.
 abbrev pub no-conflict : Input
@@ -163,8 +170,7 @@ skipped (unit u) = unit u
 skipped neither = unit (pos 0)
 
 abbrev pub skips-hints : Rule
-skips-hints cs i s ss =
-    not (both-signs (s .clause)) && hints-by (λ trues c. skipped (outcome trues c)) empty false cs (map negated (s .clause)) (s .hints)
+skips-hints = of-hints (hints-by (λ trues c. skipped (outcome trues c)) empty false)
 
 -- 0 3 2 12 5 0: clause 3, `-3 -2 -2 0`, gives nothing. 13 at 0 is right, and this judge says yes.
 abbrev pub idle-hint : Input
@@ -173,16 +179,3 @@ idle-hint = over-T (pos 0 ∷ pos 3 ∷ pos 2 ∷ pos 12 ∷ pos 5 ∷ pos 0 ∷
 pub skipped-hint-breaks : Wrong idle-hint (answer-by skips-hints idle-hint)
 unfolding laid-down
 skipped-hint-breaks = wrong-number idle-hint Yes (λ e. omega arith)
-
--- ════════ Both signs ════════
-
-abbrev pub both-signs-pass : Rule
-both-signs-pass cs i s ss = hints-conflict (clause-numbered cs) (map negated (s .clause)) (s .hints)
-
--- 1 -1 0 1 0, then T's step 0 2 12 5 0: the first step's clause is [1, -1]. 13 at 0 is right, and this judge says yes.
-abbrev pub both-signs-step : Input
-both-signs-step = over-T (pos 1 ∷ minus 1 ∷ pos 0 ∷ pos 1 ∷ pos 0 ∷ pos 0 ∷ pos 2 ∷ pos 12 ∷ pos 5 ∷ pos 0 ∷ []) 7 14
-
-pub both-signs-breaks : Wrong both-signs-step (answer-by both-signs-pass both-signs-step)
-unfolding laid-down
-both-signs-breaks = wrong-number both-signs-step Yes (λ e. omega arith)

@@ -20,5 +20,6 @@ pub mod Refuted
 pub mod Refutable
 pub mod Lazy
 pub mod LazySteps
+pub mod LazySigns
 pub mod LazyAreas
 pub mod CanBeMet

@@ -52,7 +52,7 @@ fn hint<'a>(
     find(here.limit, stamp_after(here.done), clause, values)
 }
 
-// Whether a step is accepted.
+// Whether a step is accepted: one whose clause is trivially true exactly if it has no hints, any other by its hints.
 fn accepted<'a>(
     here: StepPlace,
     cnf: &'a [i32],
@@ -70,7 +70,7 @@ fn accepted<'a>(
 {
     let stamp = stamp_after(here.done);
     if !set_false(here.limit, stamp, clause, values) {
-        return false;
+        return hints.len() == 0;
     }
     let mut i = 0;
     while i < hints.len() {

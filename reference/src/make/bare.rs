@@ -8,7 +8,7 @@ use crate::splitting::{refute, words, Step};
 
 type Clauses = Vec<Vec<i32>>;
 
-fn cnf_words(clauses: &Clauses) -> Vec<i32> {
+pub fn cnf_words(clauses: &[Vec<i32>]) -> Vec<i32> {
     clauses.iter().flat_map(|clause| clause.iter().copied().chain([0])).collect()
 }
 
@@ -35,6 +35,21 @@ pub fn unsatisfiable(random: &mut Random) -> (usize, Vec<Vec<i32>>) {
         let parts: Vec<&[i32]> = clauses.iter().map(Vec::as_slice).collect();
         if models::all_by_trying(variables, &parts).is_empty() {
             return (variables, clauses);
+        }
+    }
+}
+
+/// A CNF that is refuted: V, which is at least 1, its clauses, and a refutation of moderate length.
+pub fn refuted(random: &mut Random) -> (usize, Vec<Vec<i32>>, Vec<Step>) {
+    loop {
+        let (least, mut clauses) = unsatisfiable(random);
+        if least == 0 {
+            continue;
+        }
+        let variables = spread(random, least, &mut clauses);
+        let parts: Vec<&[i32]> = clauses.iter().map(Vec::as_slice).collect();
+        if let Some(steps) = refute(random, &parts, 60) {
+            return (variables, clauses, steps);
         }
     }
 }
@@ -93,7 +108,7 @@ pub fn size(random: &mut Random, needed: usize) -> u32 {
     size.min(65_536) as u32
 }
 
-fn request(random: &mut Random, variables: u32, cnf: Vec<i32>, refutation: Vec<i32>) -> Request {
+pub fn request(random: &mut Random, variables: u32, cnf: Vec<i32>, refutation: Vec<i32>) -> Request {
     let clauses = cnf.iter().filter(|&&word| word == 0).count();
     // Of the long areas most are too short on purpose, to keep the answers short.
     let by_numbers = match variables {
@@ -164,7 +179,17 @@ fn subject(random: &mut Random, out: &mut Vec<Request>) {
 
 /// The corners that a random choice may miss.
 fn corners(out: &mut Vec<Request>) {
-    let refutations: [&[i32]; 6] = [&[], &[0], &[0, 0], &[0, 1, 0], &[0, 2, 0], &[1, 0, 1, 0]];
+    let refutations: [&[i32]; 9] = [
+        &[],
+        &[0],
+        &[0, 0],
+        &[0, 1, 0],
+        &[0, 2, 0],
+        &[1, 0, 1, 0],
+        &[1, -1, 0, 0],
+        &[-1, 1, 0, 1, 0],
+        &[1, 1, -1, 0, 0, 0, 1, 0],
+    ];
     let cnfs: [&[i32]; 6] = [&[], &[0], &[0, 0], &[1], &[1, 0, -1, 0], &[-1, -1, 0, 1, 1, 0]];
     let sizes = [(0, 0), (1, 1), (2, 2), (2, 3), (65_536, 3), (66_000, 0)];
     for variables in [0, 1, 65_535, 65_536, u32::MAX] {

@@ -1,5 +1,6 @@
 //! Requests of kind `cases`: the cases T and H of document 01, its thirteen counts, and words with two faults in one part.
 
+use super::bare::step_count;
 use super::find::every_room;
 use super::problems::calls;
 use super::witnesses::every_witness;
@@ -56,14 +57,25 @@ pub fn counts() -> Vec<(Vec<u32>, usize)> {
 const TWO_FAULTS: [&[u32]; 3] =
     [&[0, 1, 0, 1, 0, 9, 9, 0, 2, 0], &[1, 0, 1, 1, 0, 9, 9, 0, 2, 0], &[1, 0, 0, 1, 0, 0, 9, 9]];
 
-/// T's refutations, the accepted and the refused, as problem and as bare CNF.
+/// T's refutations, the accepted and the refused, those with steps that are trivially true too, as problem and as bare CNF.
 fn case_t(out: &mut Vec<Request>) {
     let problem = check(1, &T).expect("T is well formed");
     let cnf = cnf::words(&problem);
-    let refutations: [&[i32]; 4] = [&[0, 2, 12, 5, 0], &[0, 12, 5, 0], &[], &[-2, 0, 2, 0]];
+    let refutations: [&[i32]; 10] = [
+        &[0, 2, 12, 5, 0],
+        &[0, 12, 5, 0],
+        &[],
+        &[-2, 0, 2, 0],
+        &[1, -1, 0, 0, 0, 2, 12, 5, 0],
+        &[1, -1, 0, 1, 0],
+        &[1, -1, 0, 0],
+        &[1, -1, 0, 0, 0, 13, 2, 12, 5, 0],
+        &[1, -1, 0, 0, -4, 0, 2, 5, 0, 0, 12, 14, 0],
+        &[1, -1, 0, 0, -4, 0, 2, 5, 0, 0, 12, 13, 0],
+    ];
     for refutation in refutations {
         for extra in [0, 3] {
-            let (by_numbers, by_clauses) = (7 + extra, 13 + extra);
+            let (by_numbers, by_clauses) = (7 + extra, 12 + step_count(refutation) as u32 + extra);
             out.push(Request::Refutation {
                 version: 1,
                 problem: T.to_vec(),

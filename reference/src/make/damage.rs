@@ -11,7 +11,7 @@ pub struct Of {
 }
 
 impl Of {
-    fn literal(self, random: &mut Random) -> i32 {
+    pub fn literal(self, random: &mut Random) -> i32 {
         let variable = random.between(1, self.variables.max(1) as usize) as i32;
         if random.one_in(2) {
             variable
@@ -47,7 +47,7 @@ impl Of {
     }
 }
 
-fn put(random: &mut Random, list: &mut Vec<i32>, word: i32) {
+pub fn put(random: &mut Random, list: &mut Vec<i32>, word: i32) {
     let place = random.below(list.len() + 1);
     list.insert(place, word);
 }

@@ -11,6 +11,7 @@ mod limits;
 mod problems;
 mod refute;
 pub mod shapes;
+mod trivial;
 mod witnesses;
 
 use crate::random::Random;
@@ -23,8 +24,9 @@ pub use damage::{damaged, Of};
 pub use find::subject;
 pub use jobs::job_files;
 pub use limits::all_limits;
+pub use trivial::variants;
 
-/// The requests of a kind. COUNT counts CNFs for `cnf`, problems for `problem`, `witness`,
+/// The requests of a kind. COUNT counts CNFs for `cnf` and `trivial`, problems for `problem`, `witness`,
 /// `refute` and `find`, rounds for `limits` and `cases`.
 pub fn requests(seed: u64, kind: &str, count: usize) -> Option<Vec<Request>> {
     let mut random = Random::new(seed);
@@ -37,6 +39,7 @@ pub fn requests(seed: u64, kind: &str, count: usize) -> Option<Vec<Request>> {
         "cases" => Some(cases::requests(random, count)),
         "refute" => Some(refute::requests(random, count)),
         "find" => Some(find::requests(random, count)),
+        "trivial" => Some(trivial::requests(random, count)),
         _ => None,
     }
 }

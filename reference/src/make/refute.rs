@@ -9,16 +9,22 @@ use crate::requests::Request;
 use crate::splitting::{refute, words, Step};
 use crate::{cnf, witness};
 
-struct Subject {
+pub struct Subject {
     problem: Vec<u32>,
     variables: usize,
     clauses: usize,
     room: usize,
-    steps: Vec<Step>,
+    pub steps: Vec<Step>,
+}
+
+impl Subject {
+    pub fn of(&self) -> Of {
+        Of { variables: self.variables as i32, clauses: self.clauses }
+    }
 }
 
 /// A small problem without a witness and a refutation of its CNF.
-fn subject(random: &mut Random) -> Subject {
+pub fn subject(random: &mut Random) -> Subject {
     loop {
         let problem = small(random, 6);
         let read = check(1, &problem).expect("made well formed");
@@ -34,7 +40,8 @@ fn subject(random: &mut Random) -> Subject {
     }
 }
 
-fn request(random: &mut Random, subject: &Subject, refutation: Vec<i32>, whole: bool) -> Request {
+/// Call 5 on it; `whole` with buffers that are just long enough.
+pub fn request(random: &mut Random, subject: &Subject, refutation: Vec<i32>, whole: bool) -> Request {
     let mut sized = |needed: usize| if whole { needed as u32 } else { size(random, needed) };
     Request::Refutation {
         version: 1,
@@ -50,7 +57,7 @@ pub fn requests(random: &mut Random, count: usize) -> Vec<Request> {
     let mut out = Vec::new();
     for _ in 0..count {
         let subject = subject(random);
-        let of = Of { variables: subject.variables as i32, clauses: subject.clauses };
+        let of = subject.of();
         let good = words(&subject.steps);
         out.push(request(random, &subject, good.clone(), true));
         out.push(request(random, &subject, good, false));

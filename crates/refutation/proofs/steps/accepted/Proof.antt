@@ -15,7 +15,7 @@ use Rattle.refutation.specs.Work.{stamps-limit, Marked, outcome-found, k
 use Rattle.clauses.proofs.Signs.{word-is}
 use Rattle.refutation.proofs.ClauseLiterals.{literal-at, within-at, within-at-least, within-at-most}
 use Rattle.refutation.proofs.KnownClauses.{Unset, known-fits, hint-unset}
-use Rattle.refutation.proofs.Accepted.{HintsTaken, marked-on, both-signs-refused, none-taken, all-taken, at-conflict, at-neither, at-unit}
+use Rattle.refutation.proofs.Accepted.{HintsTaken, marked-on, both-signs-judged, none-taken, all-taken, at-conflict, at-neither, at-unit}
 use Rattle.refutation.proofs.steps.accepted.Statement.{statement}
 use Rattle.refutation.proofs.steps.accepted.Tie as tie
 
@@ -75,8 +75,10 @@ set-marked c = rw (stamped c .stamp-after .ensures) at (c .set-false .ensures .1
 
 returns : tie.Need-returns Inv-loop μ-loop
 returns c =
-    let f = c .before .before .before in
-    (both-signs-refused _ _ _ (sym (not-true (f .set-false .result) (c .if1 .taken)) ∙ f .set-false .ensures .0), set-marked f)
+    let f = c .before .before .before in (
+      both-signs-judged _ _ (start (stamped f) .args .hints .now) (sym (not-true (f .set-false .result) (c .if1 .taken)) ∙ f .set-false .ensures .0),
+      set-marked f,
+    )
 
 loop-holds : tie.Need-loop-holds Inv-loop μ-loop
 loop-holds c =
