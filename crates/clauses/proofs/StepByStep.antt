@@ -13,7 +13,7 @@ use Rattle.clauses.specs.Lists.{all-of}
 use Rattle.clauses.specs.Answers.{Answer, first-failing, granted, step-refused}
 use Rattle.clauses.specs.Clauses.{Clause}
 use Rattle.clauses.specs.CnfWords.{clauses-of, cnf-checks}
-use Rattle.clauses.specs.Refutations.{Step, step, steps-of, step-accepted, clause-numbered, with-step, refutation-checks, area-checks, step-checks, closing-checks, judge-steps, judge-clauses, judge-cnf}
+use Rattle.clauses.specs.Refutations.{Step, step, steps-of, step-accepted, clause-numbered, with-step, refutation-checks, area-checks, step-checks, closing-checks, judge-steps, judge-cnf}
 use Rattle.clauses.proofs.Satisfaction.{first-true, second-true}
 use Rattle.clauses.proofs.Lookups.{numbered-some}
 use Rattle.clauses.proofs.Answers.{number-of, place-of, passing, after-by-number, number-after, cnf-checks-other, refutation-checks-other, area-checks-other, cnf-judged, clauses-judged, steps-granted, clauses-granted, cnf-granted}

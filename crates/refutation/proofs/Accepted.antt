@@ -13,7 +13,7 @@ use lib.Seq.{drop-cons}
 use Rattle.clauses.proofs.Satisfaction.{no-elements}
 use Rattle.clauses.proofs.StepRule.{by-no-hints, by-hints}
 use Rattle.clauses.specs.Lists.{empty}
-use Rattle.clauses.specs.Clauses.{Clause, negated, variable-of, among}
+use Rattle.clauses.specs.Clauses.{negated, variable-of, among}
 use Rattle.clauses.specs.Refutations.{Lookup, Outcome, conflict, unit, neither, both-signs, hint-outcome, hints-conflict, step, step-accepted}
 use Rattle.refutation.specs.Work.{Older, Values, Marked}
 use Rattle.refutation.proofs.ClauseLiterals.{literal-at}

@@ -55,7 +55,7 @@ steps-by-rule cs i total closed s [] e =
 steps-by-rule cs i total closed s (t ∷ ts) e =
     rw (answer-cond (step-accepted (clause-numbered cs) s), steps-by-rule (with-step cs s) (suc i) total (empty (s .clause)) t ts (omega arith))
 
--- By the rule that is laid down the answer is, too, so a wrong rule is all that is wrong below.
+-- By the right rule the answer is the one laid down, so a wrong rule is all that is wrong below.
 pub the-rule-right : (cs : List Clause) (ss : List Step) → answer-of (steps-by with-step the-rule cs 0 false ss) ≡ judge-steps cs ss
 unfolding judge-steps
 the-rule-right cs [] = refl
