@@ -4,7 +4,7 @@ use crate::plain::problem::MOST;
 use crate::plain::Answer;
 use crate::random::Random;
 use crate::samples::circuits::{resized, Shown, VERSION};
-use crate::samples::refuted::Refuted;
+use crate::samples::refuted::{hinted, Refuted};
 use crate::samples::searches::small;
 use crate::{plain, proved};
 use std::collections::BTreeSet;
@@ -104,10 +104,10 @@ pub fn refutations(random: &mut Random, of: &Refuted) -> Numbers {
         |random: &mut Random| random.below(2 * of.variables as usize + 3) as i32 - of.variables as i32 - 1;
     for _ in 0..TIMES {
         let (mut cnf, mut refutation) = (of.cnf.clone(), of.refutation.clone());
-        if random.one_in(4) {
-            cnf = damaged(random, &cnf, literal);
-        } else {
-            refutation = damaged(random, &refutation, literal);
+        match random.below(4) {
+            0 => cnf = damaged(random, &cnf, literal),
+            1 => refutation = hinted(random, of),
+            _ => refutation = damaged(random, &refutation, literal),
         }
         let areas =
             (vec![7; of.variables as usize + 1], vec![7; of.clauses + of.steps + 1 - random.below(3)]);

@@ -184,19 +184,20 @@ const ANSWERS: [&[u32]; 6] = [
 
 /// The requests made from the seed lead each call to each of its answers, and to no other.
 fn requests_reach_all(tally: &mut Tally, seed: u64) {
-    let mut made = Vec::new();
-    for (kind, count) in [("cnf", 250), ("problem", 1_000), ("witness", 20), ("refute", 20), ("find", 1_000)]
-    {
-        made.extend(make::requests(seed, kind, count).expect("a kind"));
-    }
-    let trivial = answers::tally(&make::requests(seed, "trivial", 100).expect("a kind"));
+    let trivial = make::requests(seed, "trivial", 100).expect("a kind");
+    let times = answers::tally(&trivial);
     for (call, least) in [(4, 100), (5, 20)] {
         for answer in [0, 13, 14] {
-            let times = trivial.get(&(call, answer, None)).copied().unwrap_or(0);
+            let times = times.get(&(call, answer, None)).copied().unwrap_or(0);
             tally.expect(times > least, || {
                 format!("trivial: call {call} has the answer {answer} {times} times")
             });
         }
+    }
+    let mut made = trivial;
+    for (kind, count) in [("cnf", 250), ("problem", 1_000), ("witness", 20), ("refute", 20), ("find", 1_000)]
+    {
+        made.extend(make::requests(seed, kind, count).expect("a kind"));
     }
     let times = answers::tally(&made);
     for call in 1..=6 {

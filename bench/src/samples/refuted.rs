@@ -78,11 +78,12 @@ fn refuted((steps, variables, seed): (usize, usize, u64)) -> Refuted {
     Refuted { variables: variables as u32, cnf, refutation, clauses: clauses.len(), steps }
 }
 
-/// The same refutation with a step in front of each that is trivially true: a clause like the CNF's, and one more sign.
+/// The same refutation with a step in front of each that is trivially true: a clause like the CNF's, and the negation of one of
+/// its literals.
 pub fn with_trivial(seed: u64, of: &Refuted) -> Refuted {
     let mut random = Random::new(seed);
     let clauses = of.clauses as i32;
-    // Step n, from 1 on, has the number after the clauses and n - 1 pairs.
+    // Step n, from 1 on, is the last of n pairs after the clauses.
     let renumbered = |hint: i32| if hint <= clauses { hint } else { clauses + 2 * (hint - clauses) };
     let mut words = vec![];
     for step in of.refutation.split_inclusive(|&word| word == 0).collect::<Vec<_>>().chunks(2) {
@@ -93,6 +94,16 @@ pub fn with_trivial(seed: u64, of: &Refuted) -> Refuted {
         words.extend(step[1].iter().map(|&hint| renumbered(hint)));
     }
     Refuted { cnf: of.cnf.clone(), refutation: words, steps: 2 * of.steps, ..*of }
+}
+
+/// The words with one hint more, of an earlier clause or step, in any step.
+pub fn hinted(random: &mut Random, of: &Refuted) -> Vec<i32> {
+    let step = random.below(of.steps);
+    let zeros = of.refutation.iter().enumerate().filter(|&(_, &word)| word == 0);
+    let (place, _) = zeros.skip(2 * step).next().expect("each step's clause is ended");
+    let mut words = of.refutation.clone();
+    words.insert(place + 1, random.between(1, of.clauses + step) as i32);
+    words
 }
 
 /// One refutation of each size.

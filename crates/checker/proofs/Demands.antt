@@ -1,4 +1,4 @@
--- The page to trust: the three demands as theorems of the calls of document 01 and of Q-3 and Q-4 of document 02, each stated in full and proved by the theorem that it names.
+-- The page to trust: the three demands as theorems of the calls of document 01 and of Q-3 of document 02, with the rule of its Q-4, each stated in full and proved by the theorem that it names.
 -- That a call keeps the promise that a theorem asks for is its `ensures`, in crates/*/src; what is to be believed besides is the definitions that
 -- the statements name (docs/PROMISES.md lists both). Assumes nothing.
 use mathlib.Core.{Path._≡_, List.List, List._++_, List.map, List.List·Memᴰ, Option.some, Logic._↔_, Logic._⊎_}

@@ -94,7 +94,7 @@ T-longer = over T-longer-words T-steps 75 11 24
 
 -- ════════ What the promise gives ════════
 
--- The answer that document 01 lays down.
+-- The answer that documents 01 and 02 lay down.
 unfoldable laid-down : Input → Answer
 unfolding header-words problem-by problem cnf cnf-words variables inputs-limit latches-limit gates-limit nodes-limit bound-limit judge-refutation refutation-checks area-checks step-accepted
 laid-down x = judge-refutation (x .version) (x .words) (x .refutation) (length (x .room)) (length (x .numbers)) (length (x .clauses))

@@ -11,7 +11,7 @@ use Rattle.clauses.specs.Lists.{all-of, numbered, joined}
 use Rattle.clauses.specs.Answers.{Answer, Check, answer, check, first-failing, first-failing-part, granted, bad-cnf, bad-refutation}
 use Rattle.clauses.specs.Clauses.{Clause, size}
 use Rattle.clauses.specs.CnfWords.{clauses-of, ended, cnf-checks}
-use Rattle.clauses.specs.Refutations.{Step, zeros, word-right, whole, refutation-checks, step-checks, area-checks, closing-checks, steps-of, last-is-empty, judge-steps, judge-clauses, judge-cnf, judged}
+use Rattle.clauses.specs.Refutations.{Step, zeros, word-right, whole, refutation-checks, with-step, step-checks, area-checks, closing-checks, steps-of, last-is-empty, judge-steps, judge-clauses, judge-cnf, judged}
 use Rattle.clauses.proofs.Satisfaction.{both-true, first-true, second-true, all-of-append, all-of-numbered}
 
 -- ════════ Answers ════════
@@ -107,7 +107,7 @@ numbered-passing t a i (x ∷ xs) = rw (numbered-passing t a (suc i) xs)
 
 -- ════════ The judges' checks ════════
 
--- Their answers are 16, 11 and 12, and no other.
+-- Their answers are 16, 11, 12 and 13, and no other.
 module _ (k : ℕ) where
   words-other : (ws : List ℤ) (f : ℕ → ℤ → Check) (last : Check) → ((i : ℕ) (w : ℤ) → other-than k (f i w) ≡ true) → other-than k last ≡ true
       → all-of (other-than k) (numbered 0 ws f ++ (last ∷ [])) ≡ true
@@ -131,6 +131,10 @@ module _ (k : ℕ) where
   unfolding area-checks
   area-checks-other e variables cs ss m n = both-true e (both-true e refl)
 
+  pub step-checks-other : not (eqb 13 k) ≡ true → (cs : List Clause) (i : ℕ) (ss : List Step) → all-of (other-than k) (step-checks cs i ss) ≡ true
+  step-checks-other e cs i [] = refl
+  step-checks-other e cs i (s ∷ ss) = both-true e (step-checks-other e (with-step cs s) (suc i) ss)
+
 pub cnf-checks-refusing : (variables : ℕ) (ws : List ℤ) → all-of refusing (cnf-checks variables ws) ≡ true
 cnf-checks-refusing = cnf-checks-other 0 refl
 
@@ -141,8 +145,7 @@ pub area-checks-refusing : (variables : ℕ) (cs : List Clause) (ss : List Step)
 area-checks-refusing = area-checks-other 0 refl
 
 pub step-checks-refusing : (cs : List Clause) (i : ℕ) (ss : List Step) → all-of refusing (step-checks cs i ss) ≡ true
-step-checks-refusing cs i [] = refl
-step-checks-refusing cs i (s ∷ ss) = step-checks-refusing _ (suc i) ss
+step-checks-refusing = step-checks-other 0 refl
 
 -- ════════ Words that were counted ════════
 

@@ -48,7 +48,7 @@ module _ (c : Clause) where
   pub both-signs-if : (w : ℤ) → is-0 w ≡ false → List·Memᴰ w c → List·Memᴰ (negated w) c → both-signs c ≡ true
   both-signs-if w z m n = some-of-member (λ v. not (is-0 v) && among (negated v) c) m (both-true (ap not z) (among-if-member n))
 
-  -- It is the constant true: whatever values its variable has, one of the two literals is true.
+  -- It is the constant true: whatever value its variable has, one of the two literals is true.
   pub trivially-true : both-signs c ≡ true → (a : Assignment) → clause-true a c ≡ true
   trivially-true e a = go (literal-true a (k .literal)) refl
     where

@@ -82,7 +82,7 @@ pub T-trivial-serves-not : judge-cnf 6 T-cnf T-trivial-hinted 7 14 ≡ answer 13
 unfolding judge-cnf refutation-checks area-checks step-accepted cnf-checks variables-limit
 T-trivial-serves-not = refl
 
--- The word 0 is no literal, so it has no sign, though it is its own negation, and a clause of it is not trivially true; a variable has.
+-- The word 0 is no literal: though it is its own negation, it has no sign, and a clause of it is not trivially true. A variable has.
 zero-has-no-sign : both-signs (pos 0 ∷ []) ≡ false
 zero-has-no-sign = refl
 

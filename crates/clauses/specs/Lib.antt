@@ -1,4 +1,4 @@
--- What document 01 says of answers, clauses, CNF words and refutations. Nothing here knows of circuits.
+-- What document 01, and Q-4 of document 02, say of answers, clauses, CNF words and refutations. Nothing here knows of circuits.
 pub mod Lists
 pub mod Limits
 pub mod Answers

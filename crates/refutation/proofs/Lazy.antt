@@ -33,7 +33,7 @@ Breaks x r numbers′ clauses′ = ¬ (Judged (x .variables) (x .cnf) (x .refuta
 abbrev pub Wrong : Input → RefutationAnswer → Type 0
 Wrong x r = (numbers′ clauses′ : List ℕ) → Breaks x r numbers′ clauses′
 
--- The answer that document 01 lays down.
+-- The answer that documents 01 and 02 lay down.
 unfoldable pub laid-down : Input → Answer
 unfolding judge-cnf refutation-checks area-checks step-accepted cnf-checks variables-limit
 laid-down x = judge-cnf (x .variables) (x .cnf) (x .refutation) (length (x .numbers)) (length (x .clauses))

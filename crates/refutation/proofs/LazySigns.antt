@@ -1,6 +1,6 @@
 -- Judges that follow a wrong rule for a step whose clause has both signs of a variable do not meet the promise. Assumes nothing.
 use mathlib.Core.Path.{_≡_, sym, _∙_}
-use mathlib.Core.Bool.{true, false, not, cond, _&&_, _||_}
+use mathlib.Core.Bool.{Bool, true, false, not, cond, _&&_, _||_}
 use mathlib.Core.List.{List, [], _∷_, map, List·Memᴰ}
 use mathlib.Core.Option.{some}
 use Prim.Native.Nat.{ℕ, _<_}
@@ -11,42 +11,67 @@ use lib.ListN.{length}
 use Rattle.clauses.specs.Lists.{all-of, empty}
 use Rattle.clauses.specs.Clauses.{Clause, minus, negated, variable-of, among}
 use Rattle.clauses.specs.CnfWords.{clauses-of}
-use Rattle.clauses.specs.Refutations.{Step, steps-of, both-signs, clause-numbered, not-false, Outcome, conflict, unit, neither, hints-conflict, with-step}
+use Rattle.clauses.specs.Refutations.{Step, Lookup, steps-of, both-signs, clause-numbered, not-false, Outcome, conflict, unit, neither, hints-conflict, with-step}
 use Rattle.clauses.specs.Cases.{T-steps, T-trivial-first, T-trivial-numbered, T-trivial-hinted}
-use Rattle.clauses.proofs.Satisfaction.{not-both}
+use Rattle.clauses.proofs.Satisfaction.{not-both, false-if-not-true}
 use Rattle.clauses.proofs.StepRule.{by-no-hints}
 use Rattle.clauses.proofs.NeverAHint.{never-a-hint}
-use Rattle.clauses.proofs.StepByStep.{step-at, clauses-before, yes-accepts, refused-at}
+use Rattle.clauses.proofs.StepByStep.{step-at, clauses-before, accepted-at, Reached, yes-accepts, open-accepts, refused-at, answered-13}
 use Rattle.refutation.specs.declared.RefutationAnswer.{RefutationAnswer}
-use Rattle.refutation.specs.declared.RefutationAnswer.the-variants.{Yes, StepRefused}
+use Rattle.refutation.specs.declared.RefutationAnswer.the-variants.{Yes, StepRefused, NotClosed}
+use Rattle.refutation.proofs.Unique.{same-answer}
 use Rattle.refutation.proofs.Lazy.{Input, Wrong, laid-down, wrong-number, over-T}
 use Rattle.refutation.proofs.LazySteps.{Rule, Adding, steps-by, answer-by, the-rule, of-hints, hints-by}
 
 -- ════════ For all words ════════
 
 module _ (x : Input) (i : ℕ) where
-  -- Step i of the refutation, and what its hints can name.
-  abbrev here : Step
-  here = step-at (steps-of (x .refutation)) i
+  abbrev steps : List Step
+  steps = steps-of (x .refutation)
 
-  abbrev named-here : ℕ → Clause → Type 0
-  named-here h c = clause-numbered (clauses-before (clauses-of (x .cnf)) (steps-of (x .refutation)) i) h ≡ some c
+  -- Step i of the refutation, what its hints can name, and whether the rule accepts it.
+  abbrev here : Step
+  here = step-at steps i
+
+  abbrev named-here : Lookup
+  named-here = clause-numbered (clauses-before (clauses-of (x .cnf)) steps i)
+
+  abbrev accepted-here : ℕ → Bool
+  accepted-here = accepted-at (clauses-of (x .cnf)) steps
 
   -- Both signs and no hints, and refused: document 01 as it was.
   pub refused-without-hints-breaks : both-signs (here .clause) ≡ true → empty (here .hints) ≡ true → Wrong x (StepRefused i)
   refused-without-hints-breaks b e numbers′ clauses′ j =
-      not-both (by-no-hints _ here b ∙ e) (refused-at (x .variables) (x .cnf) (x .refutation) _ _ i (sym (j .answered)))
+      not-both (by-no-hints named-here here b ∙ e) (refused-at (x .variables) (x .cnf) (x .refutation) _ _ i (sym (j .answered)) .1)
 
-  module _ (inside : i < length (steps-of (x .refutation))) where
-    -- Both signs and hints, and accepted.
-    pub accepted-with-hints-breaks : both-signs (here .clause) ≡ true → empty (here .hints) ≡ false → Wrong x Yes
-    accepted-with-hints-breaks b e numbers′ clauses′ j =
-        not-both (yes-accepts (x .variables) (x .cnf) (x .refutation) _ _ (sym (j .answered)) i inside) (by-no-hints _ here b ∙ e)
+  module _ (inside : i < length steps) where
+    -- A step that the rule refuses: neither yes nor 14 meets the promise,
+    passed-over-breaks : accepted-here i ≡ false → Wrong x Yes × ((n : ℕ) → Wrong x (NotClosed n))
+    passed-over-breaks refused = (
+      λ numbers′ clauses′ j. not-both (yes-accepts (x .variables) (x .cnf) (x .refutation) _ _ (sym (j .answered)) i inside) refused,
+      λ n numbers′ clauses′ j. not-both (open-accepts (x .variables) (x .cnf) (x .refutation) _ _ n (sym (j .answered)) i inside) refused,
+    )
 
-    -- A hint that names a clause with both signs, and accepted.
-    pub accepted-by-both-signs-breaks : {h : ℕ} → List·Memᴰ h (here .hints) → (c : Clause) → named-here h c → both-signs c ≡ true → Wrong x Yes
-    accepted-by-both-signs-breaks m c q b numbers′ clauses′ j =
-        not-both b (never-a-hint _ here (yes-accepts (x .variables) (x .cnf) (x .refutation) _ _ (sym (j .answered)) i inside) m c q)
+    -- and nothing but 13 at it where 16, 11 and 12 pass and the steps before it are accepted.
+    pub other-than-13-breaks : Reached (x .variables) (x .cnf) (x .refutation) (length (x .numbers)) (length (x .clauses))
+        → ((h : ℕ) → h < i → accepted-here h ≡ true) → accepted-here i ≡ false → (r : RefutationAnswer) → ¬ (r ≡ StepRefused i) → Wrong x r
+    other-than-13-breaks reached before refused r other numbers′ clauses′ j =
+        other (same-answer r (StepRefused i) (j .answered ∙ answered-13 (x .variables) (x .cnf) (x .refutation) _ _ reached i inside before refused))
+
+    -- Such a step is one with both signs and hints,
+    pub refused-with-hints : both-signs (here .clause) ≡ true → empty (here .hints) ≡ false → accepted-here i ≡ false
+    refused-with-hints b e = by-no-hints named-here here b ∙ e
+
+    pub accepted-with-hints-breaks : both-signs (here .clause) ≡ true → empty (here .hints) ≡ false → Wrong x Yes × ((n : ℕ) → Wrong x (NotClosed n))
+    accepted-with-hints-breaks b e = passed-over-breaks (refused-with-hints b e)
+
+    -- and one with a hint that names a clause with both signs.
+    pub refused-by-both-signs : {h : ℕ} → List·Memᴰ h (here .hints) → (c : Clause) → named-here h ≡ some c → both-signs c ≡ true → accepted-here i ≡ false
+    refused-by-both-signs m c q b = false-if-not-true (accepted-here i) (λ e. not-both b (never-a-hint named-here here e m c q))
+
+    pub accepted-by-both-signs-breaks : {h : ℕ} → List·Memᴰ h (here .hints) → (c : Clause) → named-here h ≡ some c → both-signs c ≡ true
+        → Wrong x Yes × ((n : ℕ) → Wrong x (NotClosed n))
+    accepted-by-both-signs-breaks m c q b = passed-over-breaks (refused-by-both-signs m c q b)
 
 -- ════════ By inputs: refused always, accepted always, judged by its hints ════════
 

@@ -43,7 +43,7 @@ fn among(random: &mut Random, of: Of, good: &[Step]) -> Vec<Step> {
     steps
 }
 
-/// An accepted refutation with such steps put into it, each with the answer that the request lays down for it.
+/// An accepted refutation with such steps put into it, each with the answer that document 02 lays down for it.
 pub fn variants(random: &mut Random, of: Of, good: &[Step]) -> Vec<(Vec<Step>, Answer)> {
     let mut made = Vec::new();
 
