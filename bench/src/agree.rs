@@ -1,11 +1,13 @@
 //! That both versions do the same job: on damaged requests, and on other runs, they give the same answers and leave the same buffers.
 
+use crate::plain::aiger;
 use crate::plain::problem::MOST;
 use crate::plain::Answer;
 use crate::random::Random;
 use crate::samples::circuits::{resized, Shown, VERSION};
 use crate::samples::refuted::{hinted, Refuted};
 use crate::samples::searches::small;
+use crate::samples::texts;
 use crate::{plain, proved};
 use std::collections::BTreeSet;
 
@@ -20,6 +22,13 @@ const TIMES: usize = 200;
 
 /// How many small problems are searched.
 const SEARCHES: usize = 4_000;
+
+/// How many circuits are read and written.
+const CIRCUITS: usize = 10_000;
+
+/// What a text is damaged with: bytes, more of those that it may have, and digits that make a number too large or begin it with zeros.
+const BYTES: &[u8] = b"0123456789 \n 1\n2-/:\t\ra";
+const LONG: [&str; 4] = ["214748364", "4294967296", "18446744073709551616", "00"];
 
 /// A buffer that is empty, cut short, has a word too many, or another word in one place.
 fn damaged<T: Copy>(random: &mut Random, words: &[T], word: impl Fn(&mut Random) -> T) -> Vec<T> {
@@ -141,6 +150,79 @@ pub fn searches(random: &mut Random) -> Numbers {
         let (mut proved_room, mut plain_room) = (vec![7; size], vec![7; size]);
         let proved = proved::find(version, &words, &mut proved_room);
         same(&mut numbers, proved, plain::finder::find(version, &words, &mut plain_room));
+        assert_eq!(proved_room, plain_room, "both leave one room");
+    }
+    numbers
+}
+
+/// Words of any sizes, few of them many, since those take long.
+fn circuit(random: &mut Random) -> Vec<u32> {
+    let most = if random.one_in(100) { aiger::MOST } else { random.pick(&[[2, 2, 3, 2], [9, 9, 60, 9]]) };
+    let sizes = most.map(|size| random.between(0, size as usize));
+    texts::circuit(random, sizes)
+}
+
+/// A room that is too short, as long as need be, or longer.
+fn room<T: Copy>(random: &mut Random, needed: usize, filled: T) -> Vec<T> {
+    let size = match random.below(8) {
+        0 => random.below(needed + 1),
+        1..4 => needed + random.below(9),
+        _ => needed,
+    };
+    vec![filled; size]
+}
+
+/// A text with another byte in one place, one byte or many digits more, one byte less, or damaged as any buffer.
+fn damaged_text(random: &mut Random, mut text: Vec<u8>) -> Vec<u8> {
+    if text.is_empty() {
+        return text;
+    }
+    let most = random.pick(&[20, 60, usize::MAX]);
+    let place = random.below(text.len().min(most));
+    let byte = |random: &mut Random| random.pick(BYTES);
+    match random.below(6) {
+        0 => text.insert(place, byte(random)),
+        1 => drop(text.remove(place)),
+        2 => drop(text.splice(place..place, random.pick(&LONG).bytes())),
+        3 => return damaged(random, &text, byte),
+        _ => text[place] = byte(random),
+    }
+    text
+}
+
+pub fn readings(random: &mut Random) -> Numbers {
+    let mut numbers = Numbers::new();
+    for _ in 0..CIRCUITS {
+        let words = circuit(random);
+        let mut text = texts::text(&words);
+        if random.one_in(4) {
+            text.extend(b"i0 a name\nc\nand a comment");
+        }
+        let times = random.below(3);
+        for _ in 0..times {
+            text = damaged_text(random, text);
+        }
+        let room = room(random, words.len(), 7);
+        let (mut proved_room, mut plain_room) = (room.clone(), room);
+        let proved = proved::read_circuit(&text, &mut proved_room);
+        same(&mut numbers, proved, aiger::read(&text, &mut plain_room));
+        assert_eq!(proved_room, plain_room, "both leave one room");
+    }
+    numbers
+}
+
+pub fn writings(random: &mut Random) -> Numbers {
+    let mut numbers = Numbers::new();
+    for _ in 0..CIRCUITS {
+        let mut words = circuit(random);
+        let room = room(random, texts::text(&words).len(), 7);
+        if random.one_in(2) {
+            let most = random.pick(&[5, 100, 3_000]);
+            words = damaged(random, &words, |random| random.below(most) as u32);
+        }
+        let (mut proved_room, mut plain_room) = (room.clone(), room);
+        let proved = proved::write_circuit(&words, &mut proved_room);
+        same(&mut numbers, proved, aiger::write(&words, &mut plain_room));
         assert_eq!(proved_room, plain_room, "both leave one room");
     }
     numbers

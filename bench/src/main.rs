@@ -8,12 +8,14 @@ mod random;
 mod samples;
 mod timing;
 
+use plain::aiger::MOST_WORDS;
 use plain::counts::Counts;
 use plain::{answer, Answer, YES};
 use random::Random;
 use samples::circuits::{largest, lassos, prefixes, Shown, VERSION};
 use samples::refuted::{self, Refuted};
 use samples::searches::{self, Sought};
+use samples::texts;
 use std::hint::black_box;
 use timing::{medians, Medians};
 
@@ -127,6 +129,49 @@ fn find_all() {
     }
 }
 
+/// Reads or writes all that is given, each into its room; answers how many it took.
+fn into_rooms<S, T: Copy>(
+    given: &[Vec<S>],
+    rooms: &mut [Vec<T>],
+    call: fn(&[S], &mut [T]) -> Answer,
+) -> usize {
+    let answers = given.iter().zip(rooms).map(|(given, room)| call(given, room));
+    answers.filter(|answer| answer.number == 0).count()
+}
+
+fn read_circuits(work: &str, given: &[Vec<u8>]) {
+    let rooms = vec![vec![7; MOST_WORDS]; given.len()];
+    let (mut rooms, mut plain_rooms) = (rooms.clone(), rooms);
+    let mut proved = || into_rooms(given, &mut rooms, proved::read_circuit);
+    let mut plain = || into_rooms(given, &mut plain_rooms, plain::aiger::read);
+    assert_eq!((proved(), plain()), (given.len(), given.len()), "both read every text");
+    print("read a circuit", work, medians(SHORT_ROUNDS, proved, plain));
+    assert!(rooms == plain_rooms, "both read the same words");
+}
+
+fn write_circuits(work: &str, given: &[Vec<u32>]) {
+    let rooms: Vec<_> = given.iter().map(|words| vec![7; texts::text(words).len()]).collect();
+    let (mut rooms, mut plain_rooms) = (rooms.clone(), rooms);
+    let mut proved = || into_rooms(given, &mut rooms, proved::write_circuit);
+    let mut plain = || into_rooms(given, &mut plain_rooms, plain::aiger::write);
+    assert_eq!((proved(), plain()), (given.len(), given.len()), "both write every circuit");
+    print("write a circuit", work, medians(SHORT_ROUNDS, proved, plain));
+    assert!(rooms == plain_rooms, "both write the same texts");
+}
+
+fn circuits() {
+    let largest = texts::circuits(SEED, PROBLEMS);
+    let texts: Vec<_> = largest.iter().map(|words| texts::text(words)).collect();
+    let named: Vec<_> = texts.iter().map(|text| texts::with_symbols(text)).collect();
+    let meter_texts = texts::meters(PROBLEMS);
+    let meters: Vec<_> = meter_texts.iter().map(|text| texts::words(text)).collect();
+    read_circuits(&format!("{PROBLEMS} texts, all limits"), &texts);
+    read_circuits(&format!("{PROBLEMS} texts, 100 KB after each"), &named);
+    read_circuits(&format!("{PROBLEMS} texts, small meters"), &meter_texts);
+    write_circuits(&format!("{PROBLEMS} circuits, all limits"), &largest);
+    write_circuits(&format!("{PROBLEMS} circuits, small meters"), &meters);
+}
+
 fn main() {
     let (prefixes, lassos, largest) = (prefixes(SEED, PROBLEMS), lassos(SEED, PROBLEMS), largest(SEED));
     let refuted: Vec<Refuted> = refuted::all().collect();
@@ -141,6 +186,8 @@ fn main() {
     numbers.extend(agree::refutations(random, &refuted[0]));
     numbers.extend(agree::refutations(random, &refuted::with_trivial(SEED, &refuted[0])));
     numbers.extend(agree::searches(random));
+    numbers.extend(agree::readings(random));
+    numbers.extend(agree::writings(random));
     println!("both give the same answers to some thousands of requests, among them {numbers:?}");
 
     println!("{:<20}{:<42}{:>13}{:>13}{:>8}", "call", "work", "proved", "plain Rust", "ratio");
@@ -152,5 +199,6 @@ fn main() {
         judge_refutation("", refuted);
     }
     judge_refutation(", half trivial", &trivial);
+    circuits();
     find_all();
 }

@@ -54,6 +54,22 @@ extern "C" {
         room_len: usize,
         place: *mut u64,
     ) -> u32;
+
+    fn calls_read_circuit(
+        text: *const u8,
+        text_len: usize,
+        room: *mut u32,
+        room_len: usize,
+        place: *mut u64,
+    ) -> u32;
+
+    fn calls_write_circuit(
+        words: *const u32,
+        words_len: usize,
+        room: *mut u8,
+        room_len: usize,
+        place: *mut u64,
+    ) -> u32;
 }
 
 pub fn check_problem(version: u32, words: &[u32]) -> (Answer, Counts) {
@@ -115,5 +131,21 @@ pub fn find(version: u32, words: &[u32], room: &mut [u8]) -> Answer {
     let (w, r) = (words, room);
     // SAFETY: as above; the room is lent for the call alone.
     let number = unsafe { calls_find(version, w.as_ptr(), w.len(), r.as_mut_ptr(), r.len(), &mut place) };
+    answer(number, place as usize)
+}
+
+pub fn read_circuit(text: &[u8], room: &mut [u32]) -> Answer {
+    let mut place = 0;
+    let (t, r) = (text, room);
+    // SAFETY: as above; the room is lent for the call alone.
+    let number = unsafe { calls_read_circuit(t.as_ptr(), t.len(), r.as_mut_ptr(), r.len(), &mut place) };
+    answer(number, place as usize)
+}
+
+pub fn write_circuit(words: &[u32], room: &mut [u8]) -> Answer {
+    let mut place = 0;
+    let (w, r) = (words, room);
+    // SAFETY: as above; the room is lent for the call alone.
+    let number = unsafe { calls_write_circuit(w.as_ptr(), w.len(), r.as_mut_ptr(), r.len(), &mut place) };
     answer(number, place as usize)
 }

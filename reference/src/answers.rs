@@ -1,8 +1,8 @@
 //! The answers to requests, and the buffers after each call.
 
-use crate::problem::{check, Answer};
+use crate::problem::{check, yes, Answer, Problem};
 use crate::requests::{read, Fault, Request};
-use crate::{cnf, finder, refutation, witness};
+use crate::{aiger, cnf, finder, refutation, witness};
 use std::collections::BTreeMap;
 use std::io::{self, Read, Write};
 
@@ -15,16 +15,12 @@ struct Reply {
     buffers: Vec<Vec<i64>>,
 }
 
-fn room(count: u32) -> Vec<i32> {
-    vec![i32::from(FILL); count as usize]
+fn filled<T: Clone + From<u8>>(count: u32) -> Vec<T> {
+    vec![T::from(FILL); count as usize]
 }
 
-fn area(count: u32) -> Vec<u64> {
-    vec![u64::from(FILL); count as usize]
-}
-
-fn shown_room(room: &[i32]) -> Vec<i64> {
-    room.iter().map(|&word| i64::from(word)).collect()
+fn shown<T: Copy + Into<i64>>(room: &[T]) -> Vec<i64> {
+    room.iter().map(|&word| word.into()).collect()
 }
 
 fn shown_area(area: &[u64]) -> Vec<i64> {
@@ -58,41 +54,49 @@ pub fn judge_problem_refutation(
     answer
 }
 
+/// What is asked of a problem, if its words pass the check.
+fn checked(version: u32, words: &[u32], asked: impl FnOnce(&Problem) -> Answer) -> Answer {
+    check(version, words).map_or_else(|no| no, |problem| asked(&problem))
+}
+
+fn without_room(answer: Answer) -> Reply {
+    Reply { answer, buffers: vec![] }
+}
+
+/// A call that may write one room.
+fn in_room<T: Copy + From<u8> + Into<i64>>(count: u32, call: impl FnOnce(&mut [T]) -> Answer) -> Reply {
+    let mut room = filled(count);
+    let answer = call(&mut room);
+    Reply { answer, buffers: vec![shown(&room)] }
+}
+
 fn reply(request: &Request) -> Reply {
     match request {
-        Request::Check { version, problem } => {
-            let answer = check(*version, problem).map_or_else(|no| no, |_| Answer { number: 0, place: 0 });
-            Reply { answer, buffers: vec![] }
-        }
-        Request::Cnf { version, problem, room: count } => {
-            let mut room = room(*count);
-            let written = check(*version, problem).map(|problem| cnf::write(&problem, &mut room));
-            let answer = written.unwrap_or_else(|no| no);
-            Reply { answer, buffers: vec![shown_room(&room)] }
+        Request::Check { version, problem } => without_room(checked(*version, problem, |_| yes(0))),
+        Request::Cnf { version, problem, room } => {
+            in_room(*room, |room| checked(*version, problem, |problem| cnf::write(problem, room)))
         }
         Request::Witness { version, problem, witness } => {
-            let judged = check(*version, problem).map(|problem| witness::judge(&problem, witness));
-            Reply { answer: judged.unwrap_or_else(|no| no), buffers: vec![] }
+            without_room(checked(*version, problem, |problem| witness::judge(problem, witness)))
         }
         Request::Bare { variables, cnf, refutation, by_numbers, by_clauses } => {
-            let (mut first, mut second) = (area(*by_numbers), area(*by_clauses));
+            let (mut first, mut second) = (filled(*by_numbers), filled(*by_clauses));
             let answer = refutation::judge_bare(*variables, cnf, refutation, &mut first, &mut second);
             Reply { answer, buffers: vec![shown_area(&first), shown_area(&second)] }
         }
         Request::Refutation { version, problem, refutation, room: count, by_numbers, by_clauses } => {
-            let mut room = room(*count);
-            let (mut first, mut second) = (area(*by_numbers), area(*by_clauses));
+            let mut room = filled(*count);
+            let (mut first, mut second) = (filled(*by_numbers), filled(*by_clauses));
             let answer =
                 judge_problem_refutation(*version, problem, refutation, &mut room, &mut first, &mut second);
-            let buffers = vec![shown_room(&room), shown_area(&first), shown_area(&second)];
+            let buffers = vec![shown(&room), shown_area(&first), shown_area(&second)];
             Reply { answer, buffers }
         }
-        Request::Find { version, problem, room: count } => {
-            let mut room = vec![FILL; *count as usize];
-            let found = check(*version, problem).map(|problem| finder::find(&problem, &mut room));
-            let answer = found.unwrap_or_else(|no| no);
-            Reply { answer, buffers: vec![room.into_iter().map(i64::from).collect()] }
+        Request::Find { version, problem, room } => {
+            in_room(*room, |room| checked(*version, problem, |problem| finder::find(problem, room)))
         }
+        Request::ReadAiger { text, room, .. } => in_room(*room, |room| aiger::read(text, room)),
+        Request::WriteAiger { words, room, .. } => in_room(*room, |room| aiger::write(words, room)),
     }
 }
 
@@ -113,16 +117,16 @@ fn print(reply: &Reply, out: &mut impl Write) -> io::Result<()> {
 /// A call, its answer and, of a witness found, the first byte.
 pub type Sort = (u8, u32, Option<i64>);
 
-/// How often each call gives each answer.
-pub fn tally(requests: &[Request]) -> BTreeMap<Sort, usize> {
-    let mut times = BTreeMap::new();
+/// The places with which each call gives each answer, one for each time.
+pub fn tally(requests: &[Request]) -> BTreeMap<Sort, Vec<usize>> {
+    let mut places: BTreeMap<Sort, Vec<usize>> = BTreeMap::new();
     for request in requests {
         let (call, reply) = (request.call().0, reply(request));
         let number = reply.answer.number;
         let found = if (call, number) == (6, 0) { Some(reply.buffers[0][0]) } else { None };
-        *times.entry((call, number, found)).or_insert(0) += 1;
+        places.entry((call, number, found)).or_default().push(reply.answer.place);
     }
-    times
+    places
 }
 
 /// Answers every request of the input, up to its end or its first fault.

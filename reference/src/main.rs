@@ -1,6 +1,7 @@
-//! A second reading of document 01, and of the finder and the trivially true steps of document 02, in plain Rust, to
-//! test the checker against.
+//! A second reading of document 01, and of the finder, the trivially true steps and the AIGER text of document 02, in
+//! plain Rust, to test the checker against.
 
+mod aiger;
 mod answers;
 mod cnf;
 mod finder;
@@ -13,6 +14,7 @@ mod refutation;
 mod requests;
 mod selfcheck;
 mod splitting;
+mod text;
 mod witness;
 
 use std::io::{self, BufReader, BufWriter, Read, Write};
@@ -22,9 +24,10 @@ const USAGE: &str = "usage:
   reference answer < requests > answers
   reference against ANSWERS < requests   the first request that these answers answer otherwise
   reference make SEED KIND COUNT > requests
-      KIND: cnf, problem, limits, witness, cases, refute, find, trivial; broken with the number of a stream for COUNT
+      KIND: cnf, problem, limits, witness, cases, refute, find, trivial, aiger, texts; broken with the number of a
+      stream for COUNT
   reference streams                 how many broken streams there are
-  reference tally SEED KIND COUNT   how often each call gives each answer
+  reference tally SEED KIND COUNT   how often each call gives each answer, and at how many places
   reference selfcheck SEED
   reference text < jobfile
   reference job WORD... > jobfile
@@ -49,7 +52,7 @@ fn against(answers: &str) -> Result<(), String> {
     }
 }
 
-fn text() -> Result<(), String> {
+fn job_text() -> Result<(), String> {
     let mut bytes = Vec::new();
     // One byte past the limit is enough to know that there are more.
     let most = job::MOST_BYTES as u64 + 1;
@@ -70,9 +73,13 @@ fn make_requests(seed: &str, kind: &str, count: &str) -> Result<(), String> {
 fn tally(seed: &str, kind: &str, count: &str) -> Result<(), String> {
     let made = make::requests(number(seed)?, kind, number(count)?);
     let made = made.ok_or_else(|| format!("no kind {kind}"))?;
-    for ((call, answer, found), times) in answers::tally(&made) {
-        let found = found.map_or(String::new(), |byte| format!(" first byte {byte}"));
-        print(format!("call {call} answer {answer}{found}: {times}\n").as_bytes())?;
+    for ((call, answer, found), mut places) in answers::tally(&made) {
+        let (times, found) =
+            (places.len(), found.map_or(String::new(), |byte| format!(" first byte {byte}")));
+        places.sort();
+        places.dedup();
+        let different = places.len();
+        print(format!("call {call} answer {answer}{found}: {times}, {different} places\n").as_bytes())?;
     }
     Ok(())
 }
@@ -96,7 +103,7 @@ fn run(arguments: &[&str]) -> Result<(), String> {
             true => Ok(()),
             false => Err("the self check failed".to_string()),
         },
-        ["text"] => text(),
+        ["text"] => job_text(),
         ["job", words @ ..] => {
             let words: Result<Vec<u32>, String> = words.iter().map(|word| number(word)).collect();
             print(&job::file(&words?))

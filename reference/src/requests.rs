@@ -8,6 +8,8 @@ pub const WITNESS_BYTES: u32 = 8_192;
 pub const CNF_WORDS: u32 = 65_536;
 pub const REFUTATION_WORDS: u32 = 65_536;
 pub const AREA_WORDS: u32 = 66_000;
+pub const CIRCUIT_WORDS: u32 = 4_096;
+pub const TEXT_BYTES: u32 = 262_144;
 
 #[derive(Clone, Debug)]
 pub enum Request {
@@ -45,6 +47,17 @@ pub enum Request {
         problem: Vec<u32>,
         room: u32,
     },
+    /// The number of the last two means nothing.
+    ReadAiger {
+        number: u32,
+        text: Vec<u8>,
+        room: u32,
+    },
+    WriteAiger {
+        number: u32,
+        words: Vec<u32>,
+        room: u32,
+    },
 }
 
 /// Why a stream of requests ends before its end.
@@ -63,6 +76,11 @@ impl From<io::Error> for Fault {
     }
 }
 
+fn put_bytes(out: &mut Vec<u8>, bytes: &[u8]) {
+    out.extend((bytes.len() as u32).to_be_bytes());
+    out.extend(bytes);
+}
+
 fn put_words(out: &mut Vec<u8>, words: impl ExactSizeIterator<Item = u32>) {
     out.extend((words.len() as u32).to_be_bytes());
     out.extend(words.flat_map(|word| word.to_be_bytes()));
@@ -78,6 +96,8 @@ impl Request {
             Request::Bare { variables, .. } => (4, variables),
             Request::Refutation { version, .. } => (5, version),
             Request::Find { version, .. } => (6, version),
+            Request::ReadAiger { number, .. } => (7, number),
+            Request::WriteAiger { number, .. } => (8, number),
         }
     }
 
@@ -94,8 +114,7 @@ impl Request {
             }
             Request::Witness { problem, witness, .. } => {
                 put_words(&mut out, problem.iter().copied());
-                out.extend((witness.len() as u32).to_be_bytes());
-                out.extend(witness);
+                put_bytes(&mut out, witness);
             }
             Request::Bare { cnf, refutation, by_numbers, by_clauses, .. } => {
                 put_words(&mut out, cnf.iter().map(|&word| word as u32));
@@ -106,6 +125,14 @@ impl Request {
                 put_words(&mut out, problem.iter().copied());
                 put_words(&mut out, refutation.iter().map(|&word| word as u32));
                 counts.extend([*room, *by_numbers, *by_clauses]);
+            }
+            Request::ReadAiger { text, room, .. } => {
+                put_bytes(&mut out, text);
+                counts.push(*room);
+            }
+            Request::WriteAiger { words, room, .. } => {
+                put_words(&mut out, words.iter().copied());
+                counts.push(*room);
             }
         }
         out.extend(counts.iter().flat_map(|count| count.to_be_bytes()));
@@ -143,28 +170,10 @@ fn signed(input: &mut impl Read, most: u32) -> Result<Vec<i32>, Fault> {
     Ok(words(input, most)?.into_iter().map(|word| word as i32).collect())
 }
 
-/// The next request, or None at the end of the input.
-pub fn read(input: &mut impl Read) -> Result<Option<Request>, Fault> {
-    let mut call = [0];
-    if input.read(&mut call)? == 0 {
-        return Ok(None);
-    }
-    // A call that there is not is told like a request that the input ends in.
-    if !(1..=6).contains(&call[0]) {
-        return Err(Fault::CutShort);
-    }
-    let version = number(input)?;
-    if call[0] == 4 {
-        return Ok(Some(Request::Bare {
-            variables: version,
-            cnf: signed(input, CNF_WORDS)?,
-            refutation: signed(input, REFUTATION_WORDS)?,
-            by_numbers: count(input, AREA_WORDS)?,
-            by_clauses: count(input, AREA_WORDS)?,
-        }));
-    }
+/// The rest of a request that begins with problem words.
+fn about_problem(call: u8, version: u32, input: &mut impl Read) -> Result<Request, Fault> {
     let problem = words(input, PROBLEM_WORDS)?;
-    Ok(Some(match call[0] {
+    Ok(match call {
         1 => Request::Check { version, problem },
         2 => Request::Cnf { version, problem, room: count(input, CNF_WORDS)? },
         3 => Request::Witness { version, problem, witness: items(input, WITNESS_BYTES)? },
@@ -177,5 +186,36 @@ pub fn read(input: &mut impl Read) -> Result<Option<Request>, Fault> {
             by_clauses: count(input, AREA_WORDS)?,
         },
         _ => Request::Find { version, problem, room: count(input, WITNESS_BYTES)? },
+    })
+}
+
+/// The next request, or None at the end of the input.
+pub fn read(input: &mut impl Read) -> Result<Option<Request>, Fault> {
+    let mut call = [0];
+    if input.read(&mut call)? == 0 {
+        return Ok(None);
+    }
+    // A call that there is not is told like a request that the input ends in.
+    if !(1..=8).contains(&call[0]) {
+        return Err(Fault::CutShort);
+    }
+    let number = number(input)?;
+    Ok(Some(match call[0] {
+        4 => Request::Bare {
+            variables: number,
+            cnf: signed(input, CNF_WORDS)?,
+            refutation: signed(input, REFUTATION_WORDS)?,
+            by_numbers: count(input, AREA_WORDS)?,
+            by_clauses: count(input, AREA_WORDS)?,
+        },
+        7 => {
+            let text = items(input, TEXT_BYTES)?;
+            Request::ReadAiger { number, text, room: count(input, CIRCUIT_WORDS)? }
+        }
+        8 => {
+            let words = words(input, CIRCUIT_WORDS)?;
+            Request::WriteAiger { number, words, room: count(input, TEXT_BYTES)? }
+        }
+        about => about_problem(about, number, input)?,
     }))
 }

@@ -1,6 +1,7 @@
 //! The checker's jobs in plain Rust, each as a good engineer writes it: nothing is copied that can be lent, nothing is allocated in a
 //! loop, and a value that a coin decides is worked out without a branch.
 
+pub mod aiger;
 pub mod cnf;
 pub mod counts;
 pub mod finder;

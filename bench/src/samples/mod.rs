@@ -4,3 +4,4 @@ pub mod circuits;
 pub mod refuted;
 pub mod searches;
 mod solver;
+pub mod texts;

@@ -4,9 +4,6 @@ use Prim.Native.Nat.{ℕ}
 abbrev pub problem-words : ℕ
 problem-words = 4_096
 
-abbrev pub witness-bytes : ℕ
-witness-bytes = 8_192
-
 -- Of a CNF, and of a refutation.
 abbrev pub signed-words : ℕ
 signed-words = 65_536

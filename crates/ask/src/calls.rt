@@ -11,8 +11,8 @@ use crate::input::WITNESS_BYTES;
 use crate::output::print_all;
 use crate::output::print_answer;
 use crate::output::print_areas;
+use crate::output::print_bytes;
 use crate::output::print_room;
-use crate::output::print_witness;
 
 pub enum Outcome {
     Answered,
@@ -42,7 +42,7 @@ fn fill_room(room: &mut [i32]) {
     }
 }
 
-fn fill_bytes(room: &mut [u8]) {
+pub(crate) fn fill_bytes(room: &mut [u8]) {
     let mut i = 0;
     while i < room.len() {
         room[i] = BYTE_FILL;
@@ -108,7 +108,7 @@ pub(crate) fn judge_witness(
         Got::Items(n) => n,
         Got::Broken(fault) => return Outcome::Broken(fault),
     };
-    let size = match input::next_witness(witness) {
+    let size = match input::next_raw(witness) {
         Got::Items(n) => n,
         Got::Broken(fault) => return Outcome::Broken(fault),
     };
@@ -277,7 +277,7 @@ pub(crate) fn judge_refutation(
 fn find_filled(version: u32, problem: &[u32], room: &mut [u8]) {
     fill_bytes(room);
     let r = finder::find::find(version, problem, room);
-    print_witness(finder::answer::number(r), finder::answer::place(r), room);
+    print_bytes(finder::answer::number(r), finder::answer::place(r), room);
 }
 
 // Reads what is left of the request; as much of the room is lent as it asks for.

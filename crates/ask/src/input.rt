@@ -4,7 +4,7 @@ use reading::Reading;
 use reading::read_all;
 ghost use Prim.Native.Nat.{_+_, _*_, _≤_};
 ghost use lib.ListN.{length};
-ghost use Rattle.ask.specs.Capacities.{problem-words, witness-bytes, signed-words};
+ghost use Rattle.ask.specs.Capacities.{problem-words, signed-words};
 ghost use Rattle.ask.specs.Held.{Held};
 
 // The most items that a buffer of a request may have.
@@ -176,13 +176,13 @@ pub(crate) fn next_signed(bytes: &mut [u8; LARGEST], words: &mut [i32; CNF_WORDS
     got
 }
 
-// A witness is read straight into its buffer.
-pub(crate) fn next_witness(witness: &mut [u8; WITNESS_BYTES]) -> Got
-    ensures { λ r. ⌜ Held r witness-bytes ⌝ }
+// The count of a buffer of bytes, with the bytes read straight into it: a witness, or a text.
+pub(crate) fn next_raw(bytes: &mut [u8]) -> Got
+    ensures { λ r. ⌜ Held r (length (now (bytes .entry))) ⌝ }
 {
-    let got = next_count(WITNESS_BYTES);
+    let got = next_count(bytes.len());
     if let Got::Items(count) = got {
-        if let Bytes::Broken(fault) = fill(witness, count) {
+        if let Bytes::Broken(fault) = fill(bytes, count) {
             return Got::Broken(fault);
         }
     }

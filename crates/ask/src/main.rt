@@ -1,5 +1,6 @@
 // Answers requests from standard input: library calls on words that need not be any good.
 mod calls;
+mod circuits;
 mod input;
 mod output;
 
@@ -41,6 +42,8 @@ fn dispatch(
             by_clauses,
         ),
         6 => calls::find(number, bytes, problem, witness),
+        7 => circuits::read(bytes, problem),
+        8 => circuits::write(bytes, problem),
         _ => Outcome::Broken(Fault::CutShort),
     }
 }

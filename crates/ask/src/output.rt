@@ -104,8 +104,13 @@ fn wide(byte: u8) -> u64 {
     byte as u64
 }
 
-// A line with the bytes of a witness room, as numbers.
-fn put_witness(room: &[u8], at: usize, out: &mut [u8; OUT]) -> usize
+// A word as a number.
+fn wide_word(word: u32) -> u64 {
+    word as u64
+}
+
+// A line with the bytes of a witness room or a text room, as numbers.
+fn put_raw(room: &[u8], at: usize, out: &mut [u8; OUT]) -> usize
     requires { ⌜ at < line-bytes ⌝ }
     ensures { λ r. ⌜ r < line-bytes ⌝ }
 {
@@ -116,6 +121,23 @@ fn put_witness(room: &[u8], at: usize, out: &mut [u8; OUT]) -> usize
             next = put_byte(b' ', next, out);
         }
         next = put_number(wide(room[i]), next, out);
+        i += 1;
+    }
+    put_byte(b'\n', next, out)
+}
+
+// A line with the words of a circuit's room.
+fn put_words(room: &[u32], at: usize, out: &mut [u8; OUT]) -> usize
+    requires { ⌜ at < line-bytes ⌝ }
+    ensures { λ r. ⌜ r < line-bytes ⌝ }
+{
+    let mut next = at;
+    let mut i = 0;
+    while i < room.len() {
+        if 0 < i {
+            next = put_byte(b' ', next, out);
+        }
+        next = put_number(wide_word(room[i]), next, out);
         i += 1;
     }
     put_byte(b'\n', next, out)
@@ -144,11 +166,19 @@ pub(crate) fn print_room(number: u32, place: usize, room: &[i32]) {
     finish(at, &out);
 }
 
-// An answer and the witness room.
-pub(crate) fn print_witness(number: u32, place: usize, room: &[u8]) {
+// An answer and the words of a circuit's room.
+pub(crate) fn print_words(number: u32, place: usize, room: &[u32]) {
     let mut out = [0u8; OUT];
     let answered = put_answer(number, place, 0, &mut out);
-    let at = put_witness(room, answered, &mut out);
+    let at = put_words(room, answered, &mut out);
+    finish(at, &out);
+}
+
+// An answer and the bytes of a room.
+pub(crate) fn print_bytes(number: u32, place: usize, room: &[u8]) {
+    let mut out = [0u8; OUT];
+    let answered = put_answer(number, place, 0, &mut out);
+    let at = put_raw(room, answered, &mut out);
     finish(at, &out);
 }
 

@@ -1,10 +1,10 @@
--- The page to trust: the three demands as theorems of the calls of document 01 and of Q-3 of document 02, with the rule of its Q-4, each stated in full and proved by the theorem that it names.
+-- The page to trust: the three demands as theorems of the calls of document 01 and of Q-3 and Q-5 of document 02, with the rule of its Q-4, each stated in full and proved by the theorem that it names.
 -- That a call keeps the promise that a theorem asks for is its `ensures`, in crates/*/src; what is to be believed besides is the definitions that
 -- the statements name (docs/PROMISES.md lists both). Assumes nothing.
-use mathlib.Core.{Path._≡_, List.List, List._++_, List.map, List.List·Memᴰ, Option.some, Logic._↔_, Logic._⊎_}
+use mathlib.Core.{Path._≡_, List.List, List.[], List._++_, List.map, List.List·Memᴰ, Option.some, Logic._↔_, Logic._⊎_}
 use mathlib.Core.Bool.{Bool, true, false, _&&_, _||_}
 use Prim.Native.Nat.{ℕ, suc, _+_, _-_, _^_, _≤_, _<_}
-use lib.{IntN.ℤ, IntN.pos, ListN.length, ListN.getD}
+use lib.{IntN.ℤ, IntN.pos, ListN.length, ListN.getD, ListN.take}
 use Rattle.clauses.specs.{Lists.written, Lists.each, Lists.empty, Limits.variables-limit, Answers.granted, Answers.first-failing}
 use Rattle.clauses.specs.Clauses.{Clause, Assignment, negated, size, clause-true, Satisfies, Within}
 use Rattle.clauses.specs.CnfWords.{clauses-of, cnf-checks}
@@ -39,8 +39,14 @@ use Rattle.witness.specs.Promise.{answer-of}
 use Rattle.finder.specs.declared.{Finding.Finding}
 use Rattle.finder.specs.declared.Finding.the-variants as finder
 use Rattle.finder.specs.Promise.{FoundAs, Searched}
-use Rattle.job_file.specs.declared.{text.Printed.Printed}
+use Rattle.job_file.specs.declared.{texts.Printed.Printed}
 use Rattle.job_file.specs.Promise.{Prints}
+use Rattle.text.specs.{Numbers.longest-text, Readings.found}
+use Rattle.aiger.specs.declared.{Outcome.Outcome}
+use Rattle.aiger.specs.Circuits.{check-circuit}
+use Rattle.aiger.specs.Texts.{circuit-text, circuit-read}
+use Rattle.aiger.specs.Calls.{words-found}
+use Rattle.aiger.specs.Promise as texts
 use Rattle.checker.specs.declared.{Refuted.Refuted}
 use Rattle.checker.specs.declared.Refuted.the-variants as problem-judge
 use Rattle.checker.specs.{Refutation.JudgedAs}
@@ -344,3 +350,47 @@ module _ (version : ℕ) (ws room : List ℕ) {r : Finding} {after : List ℕ} (
   pub refused-18 : (n : ℕ) → (r ≡ finder.RoomTooSmall n)
       ↔ (WellFormed version ws × (open-bytes (problem version ws) ≤ search-limit) × (length room < witness-length (problem version ws)) × (n ≡ witness-length (problem version ws)))
   refused-18 = Rattle.finder.proofs.Means.room-too-small-if version ws room call
+
+-- ════════ Document 02, Q-5: circuits in AIGER text ════════
+
+-- The reader, with the word room, and the writer, with the text room: one outcome each.
+pub read-unique : {text before : List ℕ} {r r′ : Outcome} {after after′ : List ℕ}
+    → texts.ReadAs text before r after → texts.ReadAs text before r′ after′ → (r ≡ r′) × (after ≡ after′)
+read-unique = Rattle.aiger.proofs.Unique.read-unique
+
+pub written-unique : {ws before : List ℕ} {r r′ : Outcome} {after after′ : List ℕ}
+    → texts.WrittenAs ws before r after → texts.WrittenAs ws before r′ after′ → (r ≡ r′) × (after ≡ after′)
+written-unique = Rattle.aiger.proofs.Unique.written-unique
+
+-- "Every circuit written is read back the same", whatever stands after its text; and of the calls.
+pub written-read : (ws : List ℕ) → check-circuit ws ≡ granted 0 → (rest : List ℕ) → circuit-read (circuit-text ws ++ rest) ≡ found ws (length (circuit-text ws)) rest
+written-read = Rattle.aiger.proofs.RoundTrips.written-read
+
+pub call-written-read : {ws out out′ room room′ : List ℕ} {r q : Outcome} → texts.WrittenAs ws out r out′ → texts.answer-of r .number ≡ 0
+    → texts.ReadAs (take (texts.answer-of r .place) out′) room q room′ → length ws ≤ length room → (texts.answer-of q ≡ granted (length ws)) × (room′ ≡ written ws room)
+call-written-read w at-0 = Rattle.aiger.proofs.RoundTrips.call-written-read w at-0
+
+-- "every accepted file, written again, has one normal text": its words pass 1 to 4, their text reads as the same words, and writing those gives it again.
+pub read-written : (text ws : List ℕ) (p : ℕ) (left : List ℕ) → circuit-read text ≡ found ws p left
+    → (check-circuit ws ≡ granted 0) × (circuit-read (circuit-text ws) ≡ found ws (length (circuit-text ws)) []) × (circuit-text (words-found (circuit-read (circuit-text ws))) ≡ circuit-text ws)
+read-written text ws p left e = let again = Rattle.aiger.proofs.RoundTrips.read-written text ws p left e in (again .good, again .same-words, again .same-text)
+
+-- Two accepted texts have the same normal text exactly if they read alike.
+pub one-normal-text : (text text′ ws ws′ : List ℕ) (p p′ : ℕ) (left left′ : List ℕ) → circuit-read text ≡ found ws p left → circuit-read text′ ≡ found ws′ p′ left′
+    → (circuit-text ws ≡ circuit-text ws′) ↔ (ws ≡ ws′)
+one-normal-text = Rattle.aiger.proofs.RoundTrips.one-normal-text
+
+-- Of the calls: what was read, written into a room that has the bytes.
+pub call-read-written : {text room room′ out out′ : List ℕ} {q r : Outcome} → texts.ReadAs text room q room′ → texts.answer-of q .number ≡ 0
+    → texts.WrittenAs (take (texts.answer-of q .place) room′) out r out′ → length (circuit-text (words-found (circuit-read text))) ≤ length out
+    → (texts.answer-of r ≡ granted (length (circuit-text (words-found (circuit-read text))))) × (out′ ≡ written (circuit-text (words-found (circuit-read text))) out)
+call-read-written p at-0 = Rattle.aiger.proofs.RoundTrips.call-read-written p at-0
+
+-- "all after the last line the header counts" is unread: with anything else there the words are the same, and the call's outcome and room.
+module _ (text ws : List ℕ) (p : ℕ) (left : List ℕ) (e : circuit-read text ≡ found ws p left) where
+  pub unread : (text ≡ take p text ++ left) × ((rest : List ℕ) → circuit-read (take p text ++ rest) ≡ found ws p rest)
+  unread = Rattle.aiger.proofs.Unread.unread text ws p left e
+
+  pub call-unread : (rest room after : List ℕ) (r : Outcome) → length text ≤ longest-text → length (take p text ++ rest) ≤ longest-text
+      → texts.ReadAs text room r after → texts.ReadAs (take p text ++ rest) room r after
+  call-unread = Rattle.aiger.proofs.RoundTrips.call-unread text ws p left e

@@ -9,7 +9,7 @@ use Rattle.problem.specs.declared.{Node.Node}
 use Rattle.problem.specs.Promise.{node-read}
 use Rattle.encoder.specs.declared.{Prepared.Prepared}
 use Rattle.encoder.specs.Preparing.{PreparedAs}
-use Rattle.job_file.specs.declared.{job.Job.Job, text.Printed.Printed}
+use Rattle.job_file.specs.declared.{job.Job.Job, texts.Printed.Printed}
 use Rattle.job_file.specs.Promise.{JobRead, Prints}
 
 -- The CNF written for a refutation.

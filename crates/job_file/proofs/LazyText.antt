@@ -8,17 +8,18 @@ use lib.IntN.{ℤ}
 use lib.ListN.{length, getD, replicate, length-append}
 use Rattle.clauses.specs.Answers.{answer, first-failing, granted}
 use Rattle.clauses.proofs.Answers.{number-of, place-of}
+use Rattle.text.specs.Numbers.{decimal}
 use Rattle.meaning.specs.Limits.{inputs-limit, latches-limit, gates-limit, nodes-limit, bound-limit, job-limit, program-room}
 use Rattle.meaning.specs.Answers.{bad-job}
 use Rattle.meaning.specs.Problem.{header-words, problem-by, problem}
 use Rattle.meaning.specs.Cnf.{variables, cnf, cnf-words}
-use Rattle.meaning.specs.JobFile.{job-words, job-checks, decimal, header-line, cnf-text, refusal-line, job-answer, printed}
+use Rattle.meaning.specs.JobFile.{job-words, job-checks, header-line, cnf-text, refusal-line, job-answer, printed}
 use Rattle.meaning.specs.Cases.{T-file, T-text}
 use Rattle.job_file.specs.declared.job.Job.{Job}
 use Rattle.job_file.specs.declared.job.JobAnswer.{JobAnswer}
 use Rattle.job_file.specs.declared.job.JobAnswer.the-variants.{Good, Bad}
-use Rattle.job_file.specs.declared.text.Printed.{Printed}
-use Rattle.job_file.specs.declared.text.Printed.the-variants.{Bytes, Short}
+use Rattle.job_file.specs.declared.texts.Printed.{Printed}
+use Rattle.job_file.specs.declared.texts.Printed.the-variants.{Bytes, Short}
 use Rattle.job_file.specs.Text.{words-text, flat-text}
 use Rattle.job_file.specs.Promise.{job-answered, JobRead, Prints}
 use Rattle.job_file.proofs.Prints.{written-whole, short-without-room}

@@ -1,8 +1,6 @@
 -- The plain mathematics of the crate's proofs.
-pub mod Buffers
 pub mod JobChecks
 pub mod ReadWords
-pub mod Decimals
 pub mod WordText
 pub mod WordsText
 pub mod Prints

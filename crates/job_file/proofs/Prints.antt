@@ -10,11 +10,12 @@ use lib.ListN.{length, take, drop, length-append}
 use lib.Seq.{take-at}
 use Rattle.clauses.specs.Lists.{written}
 use Rattle.clauses.specs.Answers.{Answer, answer}
+use Rattle.text.specs.Promise.{largest-size}
+use Rattle.text.proofs.Buffers.{Put}
 use Rattle.meaning.specs.JobFile.{refusal-line}
-use Rattle.job_file.specs.Text.{Put}
-use Rattle.job_file.specs.Promise.{largest-size, size, Prints}
-use Rattle.job_file.specs.declared.text.Printed.{Printed}
-use Rattle.job_file.specs.declared.text.Printed.the-variants.{Bytes, Short}
+use Rattle.job_file.specs.Promise.{size, Prints}
+use Rattle.job_file.specs.declared.texts.Printed.{Printed}
+use Rattle.job_file.specs.declared.texts.Printed.the-variants.{Bytes, Short}
 
 -- What is printed is another name of the text.
 pub prints-as : {text same out : List ℕ} {r : Printed} {left : List ℕ} → text ≡ same → Prints text out r left → Prints same out r left

@@ -6,10 +6,10 @@ use native.Mathlib.Nat.{zero-add}
 use native.Mathlib.Numerals.{add-one}
 use lib.ListN.{length, set}
 use Rattle.clauses.specs.Lists.{numbers, written}
+use Rattle.text.proofs.Buffers.{written-more}
 use Rattle.meaning.specs.JobFile.{number-at, job-header}
 use Rattle.meaning.proofs.Numbers.{numbers-suc, length-map-numbers}
 use Rattle.job_file.specs.Promise.{words-from}
-use Rattle.job_file.proofs.Buffers.{written-more}
 
 words-more : (bs : List ℕ) (i : ℕ) → words-from bs (i + 1) ≡ words-from bs i ++ (number-at bs (job-header + 4 * i) ∷ [])
 words-more bs i =

@@ -8,9 +8,10 @@ use lib.ListN.{length, getD, length-append}
 use mir.Syntax.{w32}
 use mir.Val.{SFits}
 use Rattle.clauses.specs.Answers.{answer}
-use Rattle.meaning.specs.JobFile.{bytes-of, decimal, header-line, refusal-line}
+use Rattle.text.specs.Numbers.{bytes-of, decimal}
+use Rattle.text.proofs.Decimals.{length-within}
+use Rattle.meaning.specs.JobFile.{header-line, refusal-line}
 use Rattle.job_file.specs.Text.{word-text, words-text, flat-text}
-use Rattle.job_file.proofs.Decimals.{length-within}
 
 pub length-header : (v c : ℕ) → length (header-line v c) ≡ length (decimal v) + length (decimal c) + 8
 length-header v c = simp length-append (omega arith)

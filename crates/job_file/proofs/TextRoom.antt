@@ -18,6 +18,7 @@ use Rattle.clauses.specs.Clauses.{Clause, variable-of, literal-within, Within}
 use Rattle.clauses.specs.CnfWords.{ended-by-0, words-of}
 use Rattle.clauses.proofs.Satisfaction.{both-true, first-true, second-true, all-of-append, all-of-at, all-of-weaker}
 use Rattle.clauses.proofs.Answers.{number-of, passing, first-failing-passed, all-pass-if-yes}
+use Rattle.text.proofs.Decimals.{length-within}
 use Rattle.meaning.specs.Limits.{job-limit, program-room}
 use Rattle.meaning.specs.Problem.{Problem, problem, Outline, outline, latch-place, gate-place, node-place, words-in-all}
 use Rattle.meaning.specs.Check.{header-checks, limit-checks, length-checks, latch-checks, gate-checks, node-checks, each-below}
@@ -31,10 +32,9 @@ use Rattle.meaning.proofs.ItemByItem.{_and_, all-of-joined}
 use Rattle.meaning.proofs.Numbers.{all-of-each-below}
 use Rattle.meaning.proofs.Ranges.{literals-within, variables-fit}
 use Rattle.meaning.proofs.AllLimits.{largest-if-proper}
-use Rattle.job_file.specs.declared.text.Printed.the-variants.{Short}
+use Rattle.job_file.specs.declared.texts.Printed.the-variants.{Short}
 use Rattle.job_file.specs.Text.{text-limit}
 use Rattle.job_file.specs.Promise.{Prints}
-use Rattle.job_file.proofs.Decimals.{length-within}
 use Rattle.job_file.proofs.JobChecks.{at-too-long, job-checks-refusing}
 use Rattle.job_file.proofs.ReadWords.{length-words}
 use Rattle.job_file.proofs.Prints.{short-without-room}

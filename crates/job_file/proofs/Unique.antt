@@ -9,7 +9,7 @@ use Rattle.clauses.proofs.Answers.{number-of, place-of}
 use Rattle.job_file.specs.declared.job.Job.{Job}
 use Rattle.job_file.specs.declared.job.JobAnswer.{JobAnswer}
 use Rattle.job_file.specs.declared.job.JobAnswer.the-variants.{Good, Bad}
-use Rattle.job_file.specs.declared.text.Printed.{Printed}
+use Rattle.job_file.specs.declared.texts.Printed.{Printed}
 use Rattle.job_file.specs.Promise.{job-answered, words-read, JobRead, Prints}
 
 -- ════════ A job file read ════════

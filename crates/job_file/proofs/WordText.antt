@@ -10,7 +10,7 @@ use lib.Signed.{ltZ}
 use lib.ListN.{length, length-append}
 use Rattle.clauses.specs.Clauses.{variable-of}
 use Rattle.clauses.specs.CnfWords.{is-0}
-use Rattle.meaning.specs.JobFile.{bytes-of, decimal}
+use Rattle.text.specs.Numbers.{bytes-of, decimal}
 use Rattle.job_file.specs.Text.{word-text}
 
 pub text-0 : (w : ℤ) → is-0 w ≡ true → word-text w ≡ bytes-of "0\n"

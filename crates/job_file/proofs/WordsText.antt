@@ -7,10 +7,11 @@ use native.Mathlib.Omega.{arith}
 use lib.IntN.{ℤ, pos}
 use lib.ListN.{length, getD, take, drop, length-append, take-append-drop}
 use lib.Seq.{take-suc, take-length}
+use Rattle.text.specs.Promise.{largest-size}
+use Rattle.text.proofs.Buffers.{Put, put-then, put-length}
 use Rattle.meaning.proofs.Numbers.{each-append}
-use Rattle.job_file.specs.Text.{word-text, words-text, Put}
-use Rattle.job_file.specs.Promise.{largest-size, size}
-use Rattle.job_file.proofs.Buffers.{put-then, put-length}
+use Rattle.job_file.specs.Text.{word-text, words-text}
+use Rattle.job_file.specs.Promise.{size}
 
 module _ (ws : List ℤ) (i : ℕ) (h : i < length ws) where
   words-text-more : words-text (take (i + 1) ws) ≡ words-text (take i ws) ++ word-text (getD ws i (pos 0))

@@ -2,19 +2,20 @@
 use mathlib.Core.Path.{_≡_}
 use mathlib.Core.Bool.{cond}
 use mathlib.Core.List.{List, [], map}
-use Prim.Native.Nat.{ℕ, _+_, _*_, _-_, _/_, _^_, min}
+use Prim.Native.Nat.{ℕ, _+_, _*_, _/_, min}
 use lib.Dec.{leb}
 use lib.ListN.{length, replicate}
 use Rattle.clauses.specs.Lists.{numbers, written}
 use Rattle.clauses.specs.Answers.{Answer, first-failing, granted}
+use Rattle.text.specs.Promise.{largest-size}
 use Rattle.meaning.specs.Limits.{job-limit}
 use Rattle.meaning.specs.Answers.{bad-job}
 use Rattle.meaning.specs.JobFile.{job-header, job-version, job-words, job-checks, number-at}
 use Rattle.job_file.specs.declared.job.Job.{Job}
 use Rattle.job_file.specs.declared.job.JobAnswer.{JobAnswer}
 use Rattle.job_file.specs.declared.job.JobAnswer.the-variants.{Good, Bad}
-use Rattle.job_file.specs.declared.text.Printed.{Printed}
-use Rattle.job_file.specs.declared.text.Printed.the-variants.{Bytes, Short}
+use Rattle.job_file.specs.declared.texts.Printed.{Printed}
+use Rattle.job_file.specs.declared.texts.Printed.the-variants.{Bytes, Short}
 
 -- ════════ A job file read ════════
 
@@ -48,10 +49,7 @@ pub record JobRead (bs : List ℕ) (j : Job) : Type 0 where
 
 -- ════════ A text printed into a buffer ════════
 
--- The largest number of a `usize`. The text of 2^60 words and more can be longer, and is then said to need so many bytes.
-unfoldable pub largest-size : ℕ
-largest-size = 2 ^ 64 - 1
-
+-- The text of 2^60 words and more can be longer than the largest size, and is then said to need so many bytes.
 abbrev pub size : List ℕ → ℕ
 size text = min (length text) largest-size
 

@@ -1,19 +1,17 @@
--- The text of a CNF given as flat words, and a text in a lent buffer. Assumes nothing.
-use mathlib.Core.Path.{_≡_}
+-- The text of a CNF given as flat words. Assumes nothing.
 use mathlib.Core.Bool.{cond}
 use mathlib.Core.List.{List, _++_}
 use Prim.Native.Nat.{ℕ, _+_, _*_}
 use lib.IntN.{ℤ}
-use lib.ListN.{length, take, drop}
-use Rattle.clauses.specs.Lists.{each, written}
+use lib.ListN.{take}
+use Rattle.clauses.specs.Lists.{each}
 use Rattle.clauses.specs.CnfWords.{is-0}
+use Rattle.text.specs.Numbers.{bytes-of, decimal, signed-decimal}
 use Rattle.meaning.specs.Limits.{program-room}
-use Rattle.meaning.specs.JobFile.{bytes-of, decimal, signed-decimal, header-line, refusal-line}
+use Rattle.meaning.specs.JobFile.{header-line, refusal-line}
 use Rattle.encoder.specs.declared.Encoded.{Encoded}
 use Rattle.encoder.specs.declared.Encoded.the-variants.{Written, Problem, RoomTooSmall}
 use Rattle.encoder.specs.Promise.{answer-of}
-
--- ════════ The text ════════
 
 -- The word 0 ends its line; after another word comes a space.
 abbrev pub word-text : ℤ → List ℕ
@@ -39,14 +37,3 @@ encoded-text (RoomTooSmall n) room = refusal-line (answer-of (RoomTooSmall n))
 -- own, ten digits for each of its numbers).
 unfoldable pub text-limit : ℕ
 text-limit = 12 * program-room + 28
-
--- ════════ In a buffer ════════
-
--- A text from a place on; what stands before and after it stays.
-abbrev pub placed : List ℕ → ℕ → List ℕ → List ℕ
-placed text at old = take at old ++ written text (drop at old)
-
--- The buffer after a text was put at a place, and the place after the text.
-pub record Put (text : List ℕ) (at : ℕ) (old : List ℕ) (next : ℕ) (new : List ℕ) : Type 0 where
-  pub after : next ≡ at + length text
-  pub held : new ≡ placed text at old

@@ -3,4 +3,4 @@ mod answer;
 pub mod job;
 pub mod print;
 mod put;
-pub mod text;
+pub mod texts;

@@ -1,4 +1,4 @@
--- Documents 01 and 02, "Answers": the rows that a problem, its witness, its job file and its finder can meet. Assumes nothing.
+-- Documents 01 and 02, "Answers": the rows that a problem, its witness, its job file, its finder and a circuit's text can meet. Assumes nothing.
 use Prim.Native.Nat.{ℕ}
 use Rattle.clauses.specs.Answers.{Answer, answer}
 
@@ -53,6 +53,14 @@ too-much-open = answer 17
 -- 18: witness room too small; the bytes needed
 abbrev pub witness-room-too-small : ℕ → Answer
 witness-room-too-small = answer 18
+
+-- 19: AIGER text; the fault's first byte, or the length
+abbrev pub bad-text : ℕ → Answer
+bad-text = answer 19
+
+-- 27: room for words or for text too small; the words or bytes needed
+abbrev pub output-room-too-small : ℕ → Answer
+output-room-too-small = answer 27
 
 -- 29: no witness exists; 0
 abbrev pub none-exists : ℕ → Answer

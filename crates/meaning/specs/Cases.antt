@@ -14,7 +14,8 @@ use Rattle.meaning.specs.Formulas.{formula}
 use Rattle.meaning.specs.Witnesses.{run}
 use Rattle.meaning.specs.Cnf.{variables, cnf, cnf-words}
 use Rattle.meaning.specs.Calls.{check-problem, judge-bytes, witnesses, judge-refutation}
-use Rattle.meaning.specs.JobFile.{job-words, job-checks, bytes-of, decimal, cnf-text, refusal-line, job-answer, printed}
+use Rattle.text.specs.Numbers.{bytes-of, decimal}
+use Rattle.meaning.specs.JobFile.{job-words, job-checks, cnf-text, refusal-line, job-answer, printed}
 
 -- ════════ Case T ════════
 

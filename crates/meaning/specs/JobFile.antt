@@ -1,15 +1,13 @@
 -- Document 01, "Job file and program": the bytes of a job (15), the CNF's text, and what the program prints. Assumes nothing.
 use mathlib.Core.Bool.{true, false, _&&_}
 use mathlib.Core.List.{List, [], _∷_, _++_, map}
-use Prim.Native.Nat.{ℕ, zero, suc, _+_, _*_, _-_, _/_, _%_}
-use Prim.Native.Char.{code}
-use Prim.Native.String.{String, [] as no-text, _∷_ as _then_}
+use Prim.Native.Nat.{ℕ, _+_, _*_, _-_, _/_, _%_}
 use lib.Dec.{leb, ltb, eqb}
-use lib.IntN.{ℤ, pos, negsuc}
 use lib.ListN.{length, getD, take, drop}
 use Rattle.clauses.specs.Lists.{numbers, each}
 use Rattle.clauses.specs.Answers.{Answer, Check, check, first-failing-part, granted}
 use Rattle.clauses.specs.Clauses.{Clause}
+use Rattle.text.specs.Numbers.{bytes-of, decimal, signed-decimal}
 use Rattle.meaning.specs.Limits.{job-limit, program-room}
 use Rattle.meaning.specs.Answers.{bad-job}
 use Rattle.meaning.specs.Problem.{Problem, header-words, problem}
@@ -50,30 +48,6 @@ job-checks bs =
     ∷ []
 
 -- ════════ Texts ════════
-
--- The bytes of a text whose characters are all below 128.
-abbrev pub bytes-of : String → List ℕ
-bytes-of no-text = []
-bytes-of (c then cs) = code c ∷ bytes-of cs
-
-abbrev pub digit : ℕ → ℕ
-digit d = 48 + d
-
--- A number's decimal digits. The first argument only bounds the recursion: it allows one digit more than it says.
-abbrev pub digits-within : ℕ → ℕ → List ℕ
-digits-within zero n = digit (n % 10) ∷ []
-digits-within (suc m) n =
-    elim (ltb n 10) [
-      | true ↦ digit n ∷ []
-      | false ↦ digits-within m (n / 10) ++ (digit (n % 10) ∷ [])
-    ]
-
-unfoldable pub decimal : ℕ → List ℕ
-decimal n = digits-within n n
-
-abbrev pub signed-decimal : ℤ → List ℕ
-signed-decimal (pos n) = decimal n
-signed-decimal (negsuc n) = bytes-of "-" ++ decimal (suc n)
 
 -- One clause a line, one space between words, 0 at each line's end.
 abbrev pub clause-line : Clause → List ℕ

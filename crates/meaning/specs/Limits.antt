@@ -28,3 +28,7 @@ program-room = 8_192
 -- "If free resets plus I(k+1) are at most 16"
 unfoldable pub search-limit : ℕ
 search-limit = 16
+
+-- "O is 0 to 64"
+unfoldable pub outputs-limit : ℕ
+outputs-limit = 64

@@ -3,7 +3,7 @@
 use job_file::job::JOB_LIMIT;
 use job_file::print::PROGRAM_ROOM;
 use job_file::print::print_job;
-use job_file::text::Printed;
+use job_file::texts::Printed;
 use libc::STDERR_FILENO;
 use libc::STDIN_FILENO;
 use libc::STDOUT_FILENO;

@@ -1,5 +1,6 @@
 //! Streams whose last request is too long, of no known call, or cut short.
 
+use super::circuits::{read, write};
 use super::T;
 use crate::random::Random;
 use crate::requests::*;
@@ -30,7 +31,7 @@ fn by_hand(call: u8, parts: &[Part]) -> Vec<u8> {
 /// Each buffer of each call one past its capacity, with and without the items that follow.
 fn too_long() -> Vec<Vec<u8>> {
     let mut all = Vec::new();
-    for past in [1, 1 << 20, 1 << 30, u32::MAX - 70_000] {
+    for past in [1, 1 << 20, 1 << 30, u32::MAX - 300_000] {
         for call in [1, 2, 3, 5, 6] {
             all.push(by_hand(call, &[asked(PROBLEM_WORDS + past)]));
         }
@@ -47,15 +48,21 @@ fn too_long() -> Vec<Vec<u8>> {
             let parts = [whole(8, 4), whole(4, 4), asked(room), asked(first), asked(second)];
             all.push(by_hand(5, &parts));
         }
+        all.push(by_hand(7, &[asked(TEXT_BYTES + past)]));
+        all.push(by_hand(7, &[whole(8, 1), asked(CIRCUIT_WORDS + past)]));
+        all.push(by_hand(8, &[asked(CIRCUIT_WORDS + past)]));
+        all.push(by_hand(8, &[whole(8, 4), asked(TEXT_BYTES + past)]));
     }
     all.push(by_hand(1, &[whole(PROBLEM_WORDS + 1, 4)]));
     all.push(by_hand(4, &[whole(CNF_WORDS + 1, 4), whole(1, 4), asked(2), asked(2)]));
+    all.push(by_hand(7, &[whole(TEXT_BYTES + 1, 1), asked(2)]));
+    all.push(by_hand(8, &[whole(CIRCUIT_WORDS + 1, 4), asked(2)]));
     all
 }
 
 /// Requests of calls that there are not, told as cut short: all but their first byte is in order.
 fn unknown() -> Vec<Vec<u8>> {
-    [0, 7, 8, 128, 255].map(|call| by_hand(call, &[whole(8, 4), asked(9), asked(9), asked(9)])).to_vec()
+    [0, 9, 10, 128, 255].map(|call| by_hand(call, &[whole(8, 4), asked(9), asked(9), asked(9)])).to_vec()
 }
 
 /// One whole request of each call.
@@ -82,6 +89,8 @@ fn whole_requests() -> Vec<Vec<u8>> {
             by_clauses: 13,
         },
         Request::Find { version, problem, room: 4 },
+        read(b"aag 1 0 1 1 0\n2 3\n2\n", 8),
+        write(&[0, 1, 0, 1, 3, 0, 2], 24),
     ];
     requests.iter().map(Request::bytes).collect()
 }

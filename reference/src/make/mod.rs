@@ -1,8 +1,10 @@
 //! Makes requests of each kind from a seed.
 
+mod aiger;
 mod bare;
 mod broken;
 mod cases;
+pub mod circuits;
 mod damage;
 mod find;
 mod find_limits;
@@ -11,6 +13,9 @@ mod limits;
 mod problems;
 mod refute;
 pub mod shapes;
+pub mod text_damage;
+mod text_limits;
+mod texts;
 mod trivial;
 mod witnesses;
 
@@ -24,10 +29,11 @@ pub use damage::{damaged, Of};
 pub use find::subject;
 pub use jobs::job_files;
 pub use limits::all_limits;
+pub use text_limits::largest;
 pub use trivial::variants;
 
 /// The requests of a kind. COUNT counts CNFs for `cnf` and `trivial`, problems for `problem`, `witness`,
-/// `refute` and `find`, rounds for `limits` and `cases`.
+/// `refute` and `find`, circuits for `aiger`, rounds for `limits`, `cases` and `texts`.
 pub fn requests(seed: u64, kind: &str, count: usize) -> Option<Vec<Request>> {
     let mut random = Random::new(seed);
     let random = &mut random;
@@ -40,6 +46,8 @@ pub fn requests(seed: u64, kind: &str, count: usize) -> Option<Vec<Request>> {
         "refute" => Some(refute::requests(random, count)),
         "find" => Some(find::requests(random, count)),
         "trivial" => Some(trivial::requests(random, count)),
+        "aiger" => Some(aiger::requests(random, count)),
+        "texts" => Some(texts::requests(random, count)),
         _ => None,
     }
 }

@@ -2,8 +2,9 @@
 use Prim.Native.Nat.{_≤_}
 use native.Mathlib.Omega.{arith}
 use borrow.Author.Needs.{needs}
+use lib.ListN.{length}
 use Rattle.ask.proofs.CountWithin.{counted}
-use Rattle.ask.specs.Capacities.{problem-words, witness-bytes}
+use Rattle.ask.specs.Capacities.{problem-words}
 use Rattle.ask.proofs.calls.judge_witness.Statement.{statement}
 use Rattle.ask.proofs.calls.judge_witness.Tie as tie
 
@@ -19,8 +20,8 @@ enum-known-fault c = search needs
 returns : tie.Need-returns
 returns c = search needs
 
-next-witness-requires : tie.Need-next-witness-requires
-next-witness-requires c κs = search needs
+next-raw-requires : tie.Need-next-raw-requires
+next-raw-requires c κs = search needs
 
 enum-known-n-2 : tie.Need-enum-known-n-2
 enum-known-n-2 c = search needs
@@ -40,8 +41,8 @@ part-judge-start c = search needs
 words-within : (t : tie.After-known-told) → t .before .n .given .0 .0 ≤ problem-words
 words-within t = counted (t .before .n .given .1) (t .before .before .before .next-words .ensures)
 
-bytes-within : (t : tie.After-known-told3) → t .before .n2 .given .0 .0 ≤ witness-bytes
-bytes-within t = counted (t .before .n2 .given .1) (t .before .before .before .next-witness .ensures)
+bytes-within : (t : tie.After-known-told3) → t .before .n2 .given .0 .0 ≤ length (t .before .before .before .before .before .before .before .before .before .before .before .args .witness .now)
+bytes-within t = counted (t .before .n2 .given .1) (t .before .before .before .next-raw .ensures)
 
 -- Where the problem is known, by where the witness is.
 abbrev first : tie.After-known-told3 → tie.After-known-told
@@ -84,7 +85,7 @@ judge-witness-spec =
     enum-known-n
     enum-known-fault
     returns
-    next-witness-requires
+    next-raw-requires
     enum-known-n-2
     enum-known-fault-2
     returns-2

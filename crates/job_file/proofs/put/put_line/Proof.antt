@@ -1,118 +1,80 @@
 -- `job_file::put::put_line` meets its contract: each part is put after those before it. Assumes nothing.
-use mathlib.Core.List.{List, _++_}
-use Prim.Native.Nat.{ℕ, _+_, _≤_, _<_}
+use mathlib.Core.Path.{_≡_, sym, ap}
+use mathlib.Core.List.{List, _++_, append-assoc}
+use Prim.Native.Nat.{ℕ, _+_, _*_, _^_, _≤_, _<_}
 use native.Mathlib.Omega.{arith}
-use lib.ListN.{length, length-append}
-use Rattle.meaning.specs.JobFile.{bytes-of, decimal}
-use Rattle.job_file.specs.Text.{line-of, Put}
-use Rattle.job_file.proofs.Buffers.{room-next, put-then, inside-after, put-closed, closed-length}
+use borrow.Author.Needs.{needs}
+use lib.ListN.{length}
+use Rattle.text.specs.Numbers.{bytes-of, decimal}
+use Rattle.text.specs.Promise.{Puts}
+use Rattle.text.proofs.Buffers.{Put, room-first, put-there, puts-then}
+use Rattle.job_file.specs.Text.{line-of}
 use Rattle.job_file.proofs.put.put_line.Statement.{statement}
 use Rattle.job_file.proofs.put.put_line.Tie as tie
 
 -- ════════ A line that fits ════════
 
--- Where a line of two numbers fits, so does each part of it.
-record LineFits (opening : List ℕ) (first : ℕ) (between : List ℕ) (second : ℕ) (o : List ℕ) : Type 0 where
-  pub to-opening : 0 + length opening ≤ length o
-  pub to-first : 0 + length (opening ++ decimal first) ≤ length o
-  pub to-between : 0 + length (opening ++ decimal first ++ between) ≤ length o
-  pub to-second : 0 + length (opening ++ decimal first ++ between ++ decimal second) ≤ length o
-  pub to-end : 0 + length (opening ++ decimal first ++ between ++ decimal second) < length o
+-- The line with its last number and the byte after it as one part.
+abbrev in-parts : List ℕ → ℕ → List ℕ → ℕ → List ℕ
+in-parts a m b n = a ++ decimal m ++ b ++ (decimal n ++ bytes-of "\n")
 
-line-fits : (a : List ℕ) (m : ℕ) (b : List ℕ) (n : ℕ) (o : List ℕ) → length (line-of a m b n) ≤ length o → LineFits a m b n o
-line-fits a m b n o h =
-    omega (
-      arith,
-      length-append a (decimal m),
-      length-append (a ++ decimal m) b,
-      length-append (a ++ decimal m ++ b) (decimal n),
-      length-append (a ++ decimal m ++ b ++ decimal n) (bytes-of "\n"),
-    )
+in-parts-is : (a : List ℕ) (m : ℕ) (b : List ℕ) (n : ℕ) → in-parts a m b n ≡ line-of a m b n
+in-parts-is a m b n = sym (append-assoc (a ++ decimal m ++ b) (decimal n) (bytes-of "\n"))
+
+module _ (a : List ℕ) (m : ℕ) (b : List ℕ) (n : ℕ) {o : List ℕ} (h : length (line-of a m b n) ≤ length o) (small : length o * 1 < 2 ^ 63) where
+  line-put : {k1 k2 k3 k4 : ℕ} {o1 o2 o3 o4 : List ℕ}
+      → Puts a 0 o k1 o1 → Puts (decimal m) k1 o1 k2 o2 → Puts b k2 o2 k3 o3 → Puts (decimal n ++ bytes-of "\n") k3 o3 k4 o4
+      → Put (line-of a m b n) 0 o k4 o4
+  line-put opened one parted two =
+      let whole : 0 + length (in-parts a m b n) ≤ length o = omega (arith, ap length (in-parts-is a m b n)) in
+      let to-between = room-first (a ++ decimal m ++ b) (decimal n ++ bytes-of "\n") 0 (length o) whole in
+      let to-first = room-first (a ++ decimal m) b 0 (length o) to-between in
+      let to-opening = room-first a (decimal m) 0 (length o) to-first in
+      rw (← in-parts-is a m b n)
+      (puts-then whole small
+      (puts-then to-between small
+      (puts-then to-first small
+      (put-there to-opening small opened) one) parted) two)
 
 -- ════════ The needs ════════
 
-fits : (c : tie.Start) → LineFits (c .args .opening .now) (c .args .first) (c .args .between .now) (c .args .second) (c .args .out .now)
-fits c = line-fits _ _ _ _ _ (c .pre)
-
 -- The points: the opening is put, the first number, what stands between, the second number.
-abbrev start1 : tie.After-put-bytes → tie.Start
-start1 c = c .before .before .before .before .before
-
 abbrev opening-put : tie.After-put-number → tie.After-put-bytes
 opening-put c = c .before .before .before .before
 
 abbrev first-put : tie.After-put-bytes2 → tie.After-put-number
 first-put c = c .before .before .before .before
 
-abbrev between-put : tie.After-put-number2 → tie.After-put-bytes2
+abbrev between-put : tie.After-put-ended → tie.After-put-bytes2
 between-put c = c .before .before .before .before
 
-abbrev start2 : tie.After-put-number → tie.Start
-start2 c = start1 (opening-put c)
-
-abbrev start3 : tie.After-put-bytes2 → tie.Start
-start3 c = start2 (first-put c)
-
-abbrev start4 : tie.After-put-number2 → tie.Start
-start4 c = start3 (between-put c)
-
--- The line up to each call's text.
-abbrev to-first : tie.Start → List ℕ
-to-first c = c .args .opening .now ++ decimal (c .args .first)
-
-abbrev to-between : tie.Start → List ℕ
-to-between c = to-first c ++ c .args .between .now
-
-abbrev to-second : tie.Start → List ℕ
-to-second c = to-between c ++ decimal (c .args .second)
-
-opened : (c : tie.After-put-bytes)
-    → Put (start1 c .args .opening .now) 0 (start1 c .args .out .now) (c .put-bytes .result) (c .put-bytes .last .1 .1 .0)
-opened c = c .put-bytes .ensures
-
-one : (c : tie.After-put-number)
-    → Put (to-first (start2 c)) 0 (start2 c .args .out .now) (c .put-number .result) (c .put-number .last .1 .1 .0)
-one c = put-then (fits (start2 c) .to-opening) (opened (opening-put c)) (c .put-number .ensures)
-
-parted : (c : tie.After-put-bytes2)
-    → Put (to-between (start3 c)) 0 (start3 c .args .out .now) (c .put-bytes2 .result) (c .put-bytes2 .last .1 .1 .0)
-parted c = put-then (fits (start3 c) .to-first) (one (first-put c)) (c .put-bytes2 .ensures)
-
-two : (c : tie.After-put-number2)
-    → Put (to-second (start4 c)) 0 (start4 c .args .out .now) (c .put-number2 .result) (c .put-number2 .last .1 .1 .0)
-two c = put-then (fits (start4 c) .to-between) (parted (between-put c)) (c .put-number2 .ensures)
+abbrev start : tie.After-put-bytes → tie.Start
+start c = c .before .before .before .before .before
 
 put-bytes-requires : tie.Need-put-bytes-requires
-put-bytes-requires c κs = fits (c .before .before .before .before) .to-opening
+put-bytes-requires c κs = search needs
 
 put-number-requires : tie.Need-put-number-requires
-put-number-requires c κs =
-    let before = c .before .before .before in
-    room-next (decimal (start1 before .args .first)) (fits (start1 before) .to-first) (opened before)
+put-number-requires c κs = search needs
 
 put-bytes-requires-2 : tie.Need-put-bytes-requires-2
-put-bytes-requires-2 c κs =
-    let before = c .before .before .before in
-    room-next (start2 before .args .between .now) (fits (start2 before) .to-between) (one before)
+put-bytes-requires-2 c κs = search needs
 
-put-number-requires-2 : tie.Need-put-number-requires-2
-put-number-requires-2 c κs =
-    let before = c .before .before .before in
-    room-next (decimal (start3 before .args .second)) (fits (start3 before) .to-second) (parted before)
-
-slice-write-out : tie.Need-slice-write-out
-slice-write-out c = inside-after (fits (start4 (c .before .before)) .to-end) (two (c .before .before))
-
-add-result : tie.Need-add-result
-add-result c =
-    let start = start4 (c .before .before) in
-    omega (arith, fits start .to-end, two (c .before .before) .after, start .good)
+put-ended-requires : tie.Need-put-ended-requires
+put-ended-requires c κs = search needs
 
 same-length : tie.Need-same-length
-same-length c = closed-length (fits (start4 (c .before .before)) .to-end) (two (c .before .before)) 10
+same-length c = search needs
 
 returns : tie.Need-returns
-returns c = put-closed (fits (start4 (c .before .before)) .to-end) (two (c .before .before)) 10
+returns c =
+    let two = c .before .before in
+    let parted = between-put two in
+    let one = first-put parted in
+    let opened = opening-put one in
+    let s = start opened in
+    line-put (s .args .opening .now) (s .args .first) (s .args .between .now) (s .args .second) (s .pre) (s .good .1 .1 .1 .1 .0 .1)
+    (opened .put-bytes .ensures) (one .put-number .ensures) (parted .put-bytes2 .ensures) (two .put-ended .ensures)
 
 pub put-line-spec : {M : Type 1} → statement M
 put-line-spec =
@@ -121,8 +83,6 @@ put-line-spec =
     put-bytes-requires
     put-number-requires
     put-bytes-requires-2
-    put-number-requires-2
-    slice-write-out
-    add-result
+    put-ended-requires
     same-length
     returns)

@@ -1,0 +1,26 @@
+-- The plain mathematics of the crate's proofs.
+pub mod KindNumbers
+pub mod Answered
+pub mod CheckedCircuit
+pub mod DueLaws
+pub mod LinesLaws
+pub mod Kept
+pub mod KeptNumbers
+pub mod ReadLaws
+pub mod Delivered
+pub mod LaidTexts
+pub mod TextLengths
+pub mod WrittenAnswers
+pub mod FoundIn
+pub mod WordsInOrder
+pub mod WrittenRead
+pub mod GoodWords
+pub mod Closed
+pub mod ClosedWords
+pub mod ClosedLines
+pub mod Unread
+pub mod RoundTrips
+pub mod Unique
+pub mod Lazy
+pub mod LazyTexts
+pub mod LazyWords

@@ -1,0 +1,18 @@
+-- `at_most` meets its contract: the literal against the most. Assumes nothing.
+use borrow.Author.Needs.{needs}
+use borrow.Author.Tests.{le-leb, lt-leb}
+use Rattle.aiger.proofs.Answered.{pass, fail}
+use Rattle.aiger.proofs.check.at_most.Statement.{statement}
+use Rattle.aiger.proofs.check.at_most.Tie as tie
+
+word-at-requires : tie.Need-word-at-requires
+word-at-requires c κs = search needs
+
+returns : tie.Need-returns
+returns c = fail (lt-leb _ _ (rw (c .before .word-at .ensures) at (c .if1 .taken)))
+
+returns-2 : tie.Need-returns-2
+returns-2 c = pass (le-leb _ _ (rw (c .before .word-at .ensures) at (c .if1 .left)))
+
+pub at-most-spec : {M : Type 1} → statement M
+at-most-spec = tie.close (tie.spec word-at-requires returns returns-2)

@@ -1,0 +1,30 @@
+-- The crate's answers as those of the documents, and the promises of its public functions. Assumes nothing.
+use mathlib.Core.List.{List}
+use mathlib.Core.Path.{_≡_}
+use Prim.Native.Nat.{ℕ}
+use lib.ListN.{length}
+use Rattle.clauses.specs.Answers.{Answer, granted}
+use Rattle.meaning.specs.Answers.{bad-length, outside-limits, bad-reset, bad-literal, bad-text, output-room-too-small}
+use Rattle.aiger.specs.declared.Outcome.{Outcome}
+use Rattle.aiger.specs.declared.Outcome.the-variants.{Done, BadText, BadLength, OutsideLimits, BadReset, BadLiteral, RoomTooSmall}
+use Rattle.aiger.specs.Calls.{read-answer, room-after-reading, write-answer, room-after-writing}
+
+-- The number and the place of each outcome.
+abbrev pub answer-of : Outcome → Answer
+answer-of (Done n) = granted n
+answer-of (BadText p) = bad-text p
+answer-of (BadLength n) = bad-length n
+answer-of (OutsideLimits i) = outside-limits i
+answer-of (BadReset i) = bad-reset i
+answer-of (BadLiteral i) = bad-literal i
+answer-of (RoomTooSmall n) = output-room-too-small n
+
+-- Reading: its answer, and the word room after it.
+pub record ReadAs (text before : List ℕ) (r : Outcome) (after : List ℕ) : Type 0 where
+  pub answered : answer-of r ≡ read-answer text (length before)
+  pub room-after : after ≡ room-after-reading (answer-of r) text before
+
+-- Writing: its answer, and the text room after it.
+pub record WrittenAs (ws before : List ℕ) (r : Outcome) (after : List ℕ) : Type 0 where
+  pub answered : answer-of r ≡ write-answer ws (length before)
+  pub room-after : after ≡ room-after-writing (answer-of r) ws before

@@ -1,0 +1,3 @@
+// Texts: words and numbers read from bytes, and put into them.
+pub mod put;
+pub mod scan;
