@@ -80,6 +80,16 @@ module _ (text room : List ℕ) (r : Outcome) (after : List ℕ) where
         let same = read-without-rest text ws p left e rest (length room) short shorter .0 in
         h (same-outcome (j .answered ∙ same ∙ sym (m .answered)))
 
+  module _ {ws left : List ℕ} {p : ℕ} (e : circuit-read text ≡ found ws p left) (long : longest-text < length text) where
+    -- The one outcome where the lines are good and the text is too long, whatever the room.
+    pub long-text-refused : ReadAs text room r after → r ≡ BadText longest-text
+    unfolding read-answer
+    long-text-refused j = same-outcome (j .answered ∙ (rw (e, lt-leb (length text) longest-text long)))
+
+    -- Anything else: 0 with the words, 27, or 19 with another place.
+    pub long-text-passed-breaks : ¬ (r ≡ BadText longest-text) → Breaks (reading text room) r after
+    long-text-passed-breaks h j = h (long-text-refused j)
+
   -- At 0 anything but the words and then what the room held.
   pub other-words-breaks : {ws left : List ℕ} {p n : ℕ} → circuit-read text ≡ found ws p left → r ≡ Done n → ¬ (after ≡ written ws room)
       → Breaks (reading text room) r after

@@ -1,10 +1,10 @@
 -- Readers that are lazy, judge in another order or spoil the room break the promise: for each a text, what meets the promise there, and what they give.
 -- Assumes nothing.
-use mathlib.Core.Path.{_≡_, refl}
+use mathlib.Core.Path.{_≡_, refl, _∙_, ap}
 use mathlib.Core.List.{List, [], _∷_, _++_}
-use Prim.Native.Nat.{ℕ}
+use Prim.Native.Nat.{ℕ, _+_, _-_, _≤_}
 use native.Mathlib.Omega.{arith}
-use lib.ListN.{getD, replicate}
+use lib.ListN.{length, getD, replicate, length-append, length-replicate}
 use Rattle.clauses.specs.Answers.{Answer}
 use Rattle.text.specs.Numbers.{bytes-of, decimal, is-number, largest-number, longest-text}
 use Rattle.meaning.specs.Limits.{inputs-limit, latches-limit, gates-limit, outputs-limit}
@@ -13,6 +13,8 @@ use Rattle.aiger.specs.declared.Outcome.the-variants.{Done, BadText, Roo
 use Rattle.aiger.specs.Texts.{circuit-read}
 use Rattle.aiger.specs.Calls.{read-answer, room-after-reading}
 use Rattle.aiger.specs.Cases.{sample, sample-text}
+use Rattle.aiger.specs.Reads.{FoundWords}
+use Rattle.aiger.proofs.ReadLaws.{answer-long, answer-done}
 use Rattle.aiger.proofs.Lazy.{Call, Breaks, reading, other-outcome, other-number, other-place, other-word}
 
 -- ════════ What the promise gives ════════
@@ -228,3 +230,55 @@ module _ (after : List ℕ) where
   -- The text's end taken for a line's.
   pub not-ended-read-breaks : Breaks not-ended (Done 4) after
   not-ended-read-breaks = other-number not-ended not-ended-meets (λ e. omega arith)
+
+-- ════════ The text's length ════════
+
+-- The sample, and so many bytes after it.
+abbrev followed-by : ℕ → List ℕ
+followed-by n = sample-text ++ replicate n 99
+
+sample-found : (n : ℕ) → FoundWords (circuit-read (followed-by n)) sample
+unfolding is-number decimal largest-number inputs-limit latches-limit gates-limit outputs-limit circuit-read
+sample-found n = record { ended-at = 30; unread = replicate n 99; found-is = refl }
+
+length-followed : (n : ℕ) → length (followed-by n) ≡ 30 + n
+length-followed n = length-append sample-text (replicate n 99) ∙ ap (λ (k : ℕ). 30 + k) (length-replicate n 99)
+
+room-for-more : 30 ≤ longest-text
+unfolding longest-text
+room-for-more = omega arith
+
+-- As long as a text may be.
+abbrev pub longest : Call
+longest = into 9 (followed-by (longest-text - 30))
+
+pub longest-meets : longest .Meets (Done 9) sample
+longest-meets =
+    answer-done (followed-by (longest-text - 30)) (replicate 9 7) (sample-found (longest-text - 30))
+    (omega (arith, length-followed (longest-text - 30), room-for-more)) refl (omega arith) refl
+
+-- A byte too many.
+abbrev pub too-long : ℕ → Call
+too-long room = into room (followed-by (longest-text - 29))
+
+pub too-long-meets : (room : ℕ) → too-long room .Meets (BadText longest-text) (replicate room 7)
+too-long-meets room =
+    answer-long (followed-by (longest-text - 29)) (replicate room 7) (sample-found (longest-text - 29))
+    (omega (arith, length-followed (longest-text - 29), room-for-more))
+
+module _ (after : List ℕ) where
+  -- A byte too few is allowed.
+  pub longest-refused-breaks : (p : ℕ) → Breaks longest (BadText p) after
+  longest-refused-breaks p = other-number longest longest-meets (λ e. omega arith)
+
+  -- The length is not looked at.
+  pub too-long-read-breaks : (n : ℕ) → Breaks (too-long 9) (Done n) after
+  too-long-read-breaks n = other-number (too-long 9) (too-long-meets 9) (λ e. omega arith)
+
+  -- Another place: the length, or where the lines end.
+  pub too-long-elsewhere-breaks : (p : ℕ) → ¬ (p ≡ longest-text) → Breaks (too-long 9) (BadText p) after
+  too-long-elsewhere-breaks p = other-place (too-long 9) (too-long-meets 9)
+
+  -- 27 before it.
+  pub room-before-length-breaks : (n : ℕ) → Breaks (too-long 0) (RoomTooSmall n) after
+  room-before-length-breaks n = other-number (too-long 0) (too-long-meets 0) (λ e. omega arith)

@@ -10,6 +10,7 @@ pub mod ReadLaws
 pub mod Delivered
 pub mod LaidTexts
 pub mod TextLengths
+pub mod Places
 pub mod WrittenAnswers
 pub mod FoundIn
 pub mod WordsInOrder
