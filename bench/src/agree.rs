@@ -1,8 +1,8 @@
 //! That both versions do the same job: on damaged requests, and on other runs, they give the same answers and leave the same buffers.
 
-use crate::plain::aiger;
+use crate::plain::aiger::{self, LONGEST_TEXT};
 use crate::plain::problem::MOST;
-use crate::plain::Answer;
+use crate::plain::{answer, Answer};
 use crate::random::Random;
 use crate::samples::circuits::{resized, Shown, VERSION};
 use crate::samples::refuted::{hinted, Refuted};
@@ -206,6 +206,30 @@ pub fn readings(random: &mut Random) -> Numbers {
         let (mut proved_room, mut plain_room) = (room.clone(), room);
         let proved = proved::read_circuit(&text, &mut proved_room);
         same(&mut numbers, proved, aiger::read(&text, &mut plain_room));
+        assert_eq!(proved_room, plain_room, "both leave one room");
+    }
+    numbers
+}
+
+/// A text of the greatest length, and one of a byte more: good lines, and zeros after them, which nobody looks at and which so take no memory.
+pub fn longest_texts(random: &mut Random) -> Numbers {
+    let mut numbers = Numbers::new();
+    let words = circuit(random);
+    let lines = texts::text(&words);
+    let mut text = vec![0; LONGEST_TEXT + 1];
+    text[..lines.len()].copy_from_slice(&lines);
+    let needed = words.len();
+    let too_long = answer(19, LONGEST_TEXT);
+    for (length, room, right) in [
+        (LONGEST_TEXT, needed, answer(0, needed)),
+        (LONGEST_TEXT, needed - 1, answer(27, needed)),
+        (LONGEST_TEXT + 1, needed, too_long),
+        (LONGEST_TEXT + 1, needed - 1, too_long),
+    ] {
+        let (mut proved_room, mut plain_room) = (vec![7; room], vec![7; room]);
+        let proved = proved::read_circuit(&text[..length], &mut proved_room);
+        same(&mut numbers, proved, aiger::read(&text[..length], &mut plain_room));
+        assert_eq!(proved, right, "the length decides");
         assert_eq!(proved_room, plain_room, "both leave one room");
     }
     numbers

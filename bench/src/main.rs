@@ -187,6 +187,7 @@ fn main() {
     numbers.extend(agree::refutations(random, &refuted::with_trivial(SEED, &refuted[0])));
     numbers.extend(agree::searches(random));
     numbers.extend(agree::readings(random));
+    numbers.extend(agree::longest_texts(random));
     numbers.extend(agree::writings(random));
     println!("both give the same answers to some thousands of requests, among them {numbers:?}");
 

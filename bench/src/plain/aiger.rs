@@ -4,7 +4,7 @@ mod read;
 mod write;
 
 use super::problem;
-pub use read::read;
+pub use read::{read, LONGEST_TEXT};
 pub use write::write;
 
 const HEADER: usize = 4;

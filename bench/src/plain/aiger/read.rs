@@ -4,7 +4,7 @@ use super::{HEADER, MOST, MOST_WORDS};
 use crate::plain::{answer, Answer};
 
 const LARGEST_NUMBER: u32 = 2_147_483_647;
-const LONGEST_TEXT: usize = 2_147_483_647;
+pub const LONGEST_TEXT: usize = 2_147_483_647;
 
 /// Where M stands, which is judged after the sizes.
 const WIDTH_AT: usize = 4;
