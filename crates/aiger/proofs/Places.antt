@@ -107,26 +107,26 @@ moves-number right p t =
 abbrev taken : (ℕ → Bool) → Mover
 taken right = record { reader = number right; bytes = 10; moves = moves-number right }
 
-moves-unkept : (x : Reading) → came-to (unkept x) ≡ came-to x
-moves-unkept (found ns q u) = refl
-moves-unkept (fault q) = refl
+came-unkept : (x : Reading) → came-to (unkept x) ≡ came-to x
+came-unkept (found ns q u) = refl
+came-unkept (fault q) = refl
 
 abbrev known : ℕ → Mover
 known m = record {
   reader = exactly m;
   bytes = 10;
-  moves = λ p t. rw (moves-unkept (number (λ n. eqb n m) p t)) (moves-number (λ n. eqb n m) p t);
+  moves = λ p t. rw (came-unkept (number (λ n. eqb n m) p t)) (moves-number (λ n. eqb n m) p t);
 }
 
-moves-kept : (f : ℕ → ℕ) (x : Reading) → came-to (kept-as f x) ≡ came-to x
-moves-kept f (found ns q u) = refl
-moves-kept f (fault q) = refl
+came-kept : (f : ℕ → ℕ) (x : Reading) → came-to (kept-as f x) ≡ came-to x
+came-kept f (found ns q u) = refl
+came-kept f (fault q) = refl
 
 abbrev reset-worded : ℕ → Mover
 reset-worded own = record {
   reader = reset-word own;
   bytes = 10;
-  moves = λ p t. rw (moves-kept (as-reset own) (number (is-reset own) p t)) (moves-number (is-reset own) p t);
+  moves = λ p t. rw (came-kept (as-reset own) (number (is-reset own) p t)) (moves-number (is-reset own) p t);
 }
 
 -- ════════ The header and the lines ════════
