@@ -4,7 +4,7 @@ use crate::plain::aiger::{self, LONGEST_TEXT};
 use crate::plain::problem::MOST;
 use crate::plain::{answer, Answer};
 use crate::random::Random;
-use crate::samples::circuits::{resized, Shown, VERSION};
+use crate::samples::circuits::{resized, Shown, CONSTRAINED, VERSION};
 use crate::samples::refuted::{hinted, Refuted};
 use crate::samples::searches::small;
 use crate::samples::texts;
@@ -55,21 +55,23 @@ fn same(numbers: &mut Numbers, proved: Answer, plain: Answer) {
     numbers.insert(proved.number);
 }
 
-fn version(random: &mut Random) -> u32 {
-    if random.one_in(50) {
-        UNKNOWN
+/// Mostly this version, at times another or one that no problem has.
+fn told(random: &mut Random, version: u32) -> u32 {
+    if random.one_in(25) {
+        random.pick(&[UNKNOWN, VERSION, CONSTRAINED])
     } else {
-        VERSION
+        version
     }
 }
 
 /// Half of the problems keep all limits and half have other sizes, so that every number that goes into a closed form moves.
-pub fn checks(random: &mut Random, words: &[u32]) -> Numbers {
+pub fn checks(random: &mut Random, shown: &Shown) -> Numbers {
     let mut numbers = Numbers::new();
     for _ in 0..TIMES {
-        let words = if random.one_in(2) { words.to_vec() } else { resized(random, words) };
+        let words =
+            if random.one_in(2) { shown.words.clone() } else { resized(random, shown.version, &shown.words) };
         let words = if random.one_in(2) { words } else { damaged(random, &words, problem_word) };
-        let version = version(random);
+        let version = told(random, shown.version);
         let (proved, proved_counts) = proved::check_problem(version, &words);
         let (plain, plain_counts) = plain::problem::check(version, &words);
         same(&mut numbers, proved, plain);
@@ -87,21 +89,21 @@ pub fn witnesses(random: &mut Random, shown: &Shown) -> Numbers {
             1 => witness = damaged(random, &witness, |random| random.below(3) as u8),
             _ => witness[INPUTS_FROM..].fill_with(|| random.below(2) as u8),
         }
-        let version = version(random);
+        let version = told(random, shown.version);
         let proved = proved::judge_witness(version, &words, &witness);
         same(&mut numbers, proved, plain::witness::judge(version, &words, &witness));
     }
     numbers
 }
 
-pub fn cnfs(random: &mut Random, words: &[u32], room: usize) -> Numbers {
+pub fn cnfs(random: &mut Random, version: u32, words: &[u32], room: usize) -> Numbers {
     let mut numbers = Numbers::new();
     for _ in 0..TIMES {
         let words = damaged(random, words, problem_word);
         let room = vec![7; room - random.below(2)];
         let (mut proved_room, mut plain_room) = (room.clone(), room);
-        let proved = proved::write_cnf(VERSION, &words, &mut proved_room);
-        same(&mut numbers, proved, plain::cnf::write(VERSION, &words, &mut plain_room));
+        let proved = proved::write_cnf(version, &words, &mut proved_room);
+        same(&mut numbers, proved, plain::cnf::write(version, &words, &mut plain_room));
         assert!(proved_room == plain_room, "both leave one room");
     }
     numbers
@@ -136,7 +138,7 @@ pub fn searches(random: &mut Random) -> Numbers {
     let mut numbers = Numbers::new();
     for _ in 0..SEARCHES {
         let free = if random.one_in(10) { random.between(12, 18) } else { random.below(12) };
-        let mut words = small(random, free);
+        let (version, mut words) = small(random, free);
         let needed = 1 + (words[1] + words[0] * (words[4] + 1)) as usize;
         let size = match random.below(8) {
             0 => random.below(needed),
@@ -146,7 +148,7 @@ pub fn searches(random: &mut Random) -> Numbers {
         if random.one_in(6) {
             words = damaged(random, &words, |random| random.below(20) as u32);
         }
-        let version = version(random);
+        let version = told(random, version);
         let (mut proved_room, mut plain_room) = (vec![7; size], vec![7; size]);
         let proved = proved::find(version, &words, &mut proved_room);
         same(&mut numbers, proved, plain::finder::find(version, &words, &mut plain_room));

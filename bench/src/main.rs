@@ -12,7 +12,9 @@ use plain::aiger::MOST_WORDS;
 use plain::counts::Counts;
 use plain::{answer, Answer, YES};
 use random::Random;
-use samples::circuits::{largest, lassos, prefixes, Shown, VERSION};
+use samples::circuits::{
+    constrained, largest, largest_constrained, lassos, prefixes, Shown, CONSTRAINED, CONSTRAINTS, VERSION,
+};
 use samples::refuted::{self, Refuted};
 use samples::searches::{self, Sought};
 use samples::texts;
@@ -24,8 +26,9 @@ const SEED: u64 = 1;
 /// Several problems in each round, so that no branch predictor learns one by heart.
 const PROBLEMS: usize = 16;
 
-/// The words of the largest CNF.
+/// The words of the largest CNF, without constraints and with the units of as many as there may be at 32 positions.
 const LARGEST: usize = 437_012;
+const LARGEST_CONSTRAINED: usize = LARGEST + 2 * 32 * CONSTRAINTS;
 
 /// Rounds of a call; a short one has more, a long one fewer.
 const ROUNDS: usize = 101;
@@ -52,37 +55,45 @@ fn grouped(number: usize) -> String {
     groups.join(",")
 }
 
+/// What the work says of the constraints, if there are any.
+fn constraints(version: u32) -> String {
+    match version {
+        CONSTRAINED => format!(", {CONSTRAINTS} constraints"),
+        _ => String::new(),
+    }
+}
+
 fn check_problems(shown: &[Shown]) {
     let all = |check: fn(u32, &[u32]) -> (Answer, Counts)| {
         // The whole answer is used, or plain Rust would leave out numbers that nobody looks at.
-        let answers = shown.iter().map(|s| black_box(check(VERSION, &s.words)));
+        let answers = shown.iter().map(|s| black_box(check(s.version, &s.words)));
         answers.filter(|&(answer, _)| answer == YES).count()
     };
     let proved = || all(proved::check_problem);
     let plain = || all(plain::problem::check);
     assert_eq!((proved(), plain()), (shown.len(), shown.len()), "both accept every problem");
-    let work = format!("{} problems, all limits", shown.len());
+    let work = format!("{} problems, all limits{}", shown.len(), constraints(shown[0].version));
     print("check a problem", &work, medians(SHORT_ROUNDS, proved, plain));
 }
 
 fn judge_witnesses(kind: &str, shown: &[Shown]) {
     let all = |judge: fn(u32, &[u32], &[u8]) -> Answer| {
-        let answers = shown.iter().map(|s| judge(VERSION, &s.words, &s.witness));
+        let answers = shown.iter().map(|s| judge(s.version, &s.words, &s.witness));
         answers.filter(|&answer| answer == YES).count()
     };
     let proved = || all(proved::judge_witness);
     let plain = || all(plain::witness::judge);
     assert_eq!((proved(), plain()), (shown.len(), shown.len()), "both accept every witness");
-    let work = format!("{} {kind}, all limits", shown.len());
+    let work = format!("{} {kind}, all limits{}", shown.len(), constraints(shown[0].version));
     print("judge a witness", &work, medians(ROUNDS, proved, plain));
 }
 
-fn write_cnf(words: &[u32]) {
-    let (mut room, mut plain_room) = (vec![7; LARGEST], vec![7; LARGEST]);
-    let mut proved = || proved::write_cnf(VERSION, words, &mut room);
-    let mut plain = || plain::cnf::write(VERSION, words, &mut plain_room);
-    assert_eq!((proved(), plain()), (answer(0, LARGEST), answer(0, LARGEST)), "both write as many words");
-    let work = format!("{} words, all limits", grouped(LARGEST));
+fn write_cnf(version: u32, words: &[u32], size: usize) {
+    let (mut room, mut plain_room) = (vec![7; size], vec![7; size]);
+    let mut proved = || proved::write_cnf(version, words, &mut room);
+    let mut plain = || plain::cnf::write(version, words, &mut plain_room);
+    assert_eq!((proved(), plain()), (answer(0, size), answer(0, size)), "both write as many words");
+    let work = format!("{} words, all limits{}", grouped(size), constraints(version));
     print("write the CNF", &work, medians(ROUNDS, proved, plain));
     assert!(room == plain_room, "both write one CNF");
 }
@@ -101,13 +112,13 @@ fn judge_refutation(kind: &str, of: &Refuted) {
     print("judge a refutation", &work, medians(rounds, proved, plain));
 }
 
-fn find(work: &str, Sought { words, witness }: &Sought, rounds: usize) {
+fn find(work: &str, Sought { version, words, witness }: &Sought, rounds: usize) {
     let answer = witness.as_ref().map_or(answer(29, 0), |witness| answer(0, witness.len()));
     let (mut room, mut plain_room) = ([7; SEARCH_ROOM], [7; SEARCH_ROOM]);
     // The answers are looked at in the rounds: a round more would take as long again.
-    let proved = || assert_eq!(proved::find(VERSION, words, &mut room), answer, "proved code finds it");
+    let proved = || assert_eq!(proved::find(*version, words, &mut room), answer, "proved code finds it");
     let plain =
-        || assert_eq!(plain::finder::find(VERSION, words, &mut plain_room), answer, "plain Rust finds it");
+        || assert_eq!(plain::finder::find(*version, words, &mut plain_room), answer, "plain Rust finds it");
     print("find a witness", work, medians(rounds, proved, plain));
     let mut wanted = [7; SEARCH_ROOM];
     if let Some(witness) = witness {
@@ -120,6 +131,8 @@ fn find_all() {
     let all = [
         ("65,536 runs, all limits, none", searches::none_of_latches(SEED), LONGEST_SEARCH_ROUNDS),
         ("65,536 runs by one input, none", searches::none_of_inputs(SEED), SEARCH_ROUNDS),
+        ("65,536 runs, 16 constraints, all met", searches::none_of_met(SEED), SEARCH_ROUNDS),
+        ("65,536 runs, most break a constraint", searches::none_of_broken(SEED), SEARCH_ROUNDS),
         ("1,024 runs, all loops close, none", searches::none_of_loops(SEED, 10), SEARCH_ROUNDS),
         ("4,096 runs, the last a lasso", searches::last_of_lassos(SEED, 12), SEARCH_ROUNDS),
         ("65,536 counts, one of the last", searches::meter(), SEARCH_ROUNDS),
@@ -174,13 +187,16 @@ fn circuits() {
 
 fn main() {
     let (prefixes, lassos, largest) = (prefixes(SEED, PROBLEMS), lassos(SEED, PROBLEMS), largest(SEED));
+    let constrained = [constrained(SEED, &prefixes), constrained(SEED, &lassos)];
+    let largest_constrained = largest_constrained(SEED);
     let refuted: Vec<Refuted> = refuted::all().collect();
     let trivial = refuted::with_trivial(SEED, &refuted[1]);
 
     let random = &mut Random::new(SEED);
-    let mut numbers = agree::cnfs(random, &largest, LARGEST);
-    for shown in prefixes.iter().chain(&lassos) {
-        numbers.extend(agree::checks(random, &shown.words));
+    let mut numbers = agree::cnfs(random, VERSION, &largest, LARGEST);
+    numbers.extend(agree::cnfs(random, CONSTRAINED, &largest_constrained, LARGEST_CONSTRAINED));
+    for shown in prefixes.iter().chain(&lassos).chain(constrained.iter().flatten()) {
+        numbers.extend(agree::checks(random, shown));
         numbers.extend(agree::witnesses(random, shown));
     }
     numbers.extend(agree::refutations(random, &refuted[0]));
@@ -192,10 +208,15 @@ fn main() {
     println!("both give the same answers to some thousands of requests, among them {numbers:?}");
 
     println!("{:<20}{:<42}{:>13}{:>13}{:>8}", "call", "work", "proved", "plain Rust", "ratio");
+    let [constrained_prefixes, constrained_lassos] = &constrained;
     check_problems(&prefixes);
+    check_problems(constrained_prefixes);
     judge_witnesses("prefixes", &prefixes);
+    judge_witnesses("prefixes", constrained_prefixes);
     judge_witnesses("lassos", &lassos);
-    write_cnf(&largest);
+    judge_witnesses("lassos", constrained_lassos);
+    write_cnf(VERSION, &largest, LARGEST);
+    write_cnf(CONSTRAINED, &largest_constrained, LARGEST_CONSTRAINED);
     for refuted in &refuted {
         judge_refutation("", refuted);
     }

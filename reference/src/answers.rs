@@ -10,9 +10,9 @@ use std::io::{self, Read, Write};
 const FILL: u8 = 7;
 
 /// A call's answer and its written buffers, as they are after the call.
-struct Reply {
-    answer: Answer,
-    buffers: Vec<Vec<i64>>,
+pub struct Reply {
+    pub answer: Answer,
+    pub buffers: Vec<Vec<i64>>,
 }
 
 fn filled<T: Clone + From<u8>>(count: u32) -> Vec<T> {
@@ -70,7 +70,7 @@ fn in_room<T: Copy + From<u8> + Into<i64>>(count: u32, call: impl FnOnce(&mut [T
     Reply { answer, buffers: vec![shown(&room)] }
 }
 
-fn reply(request: &Request) -> Reply {
+pub fn reply(request: &Request) -> Reply {
     match request {
         Request::Check { version, problem } => without_room(checked(*version, problem, |_| yes(0))),
         Request::Cnf { version, problem, room } => {

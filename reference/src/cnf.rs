@@ -1,4 +1,5 @@
-//! The CNF of a problem, clause for clause in the order of document 01, and answer 6.
+//! The CNF of a problem, clause for clause in the order of document 01, the constraints where document 02 puts them,
+//! and answer 6.
 
 use crate::problem::*;
 
@@ -109,7 +110,7 @@ impl Writer<'_> {
         self.clause(&[x, -b, -y]);
     }
 
-    /// Parts 2 to 4: gates, resets, steps.
+    /// Parts 2 to 4: gates and after them the constraints, resets, steps.
     fn run(&mut self) {
         let problem = self.problem;
         let first_gate = problem.inputs + problem.latches.len() + 1;
@@ -117,6 +118,11 @@ impl Writer<'_> {
             for (g, &(left, right)) in problem.gates.iter().enumerate() {
                 let x = circuit_variable(problem, first_gate + g, t) as i32;
                 self.and(x, self.circuit(left, t), self.circuit(right, t));
+            }
+        }
+        for t in 0..=problem.k {
+            for &constraint in &problem.constraints {
+                self.clause(&[self.circuit(constraint, t)]);
             }
         }
         for (latch, &(_, reset)) in problem.latches.iter().enumerate() {

@@ -1,5 +1,5 @@
-//! A second reading of document 01, and of the finder, the trivially true steps and the AIGER text of document 02, in
-//! plain Rust, to test the checker against.
+//! A second reading of document 01, and of the finder, the trivially true steps, the AIGER text and the constraints of
+//! document 02, in plain Rust, to test the checker against.
 
 mod aiger;
 mod answers;
@@ -24,14 +24,16 @@ const USAGE: &str = "usage:
   reference answer < requests > answers
   reference against ANSWERS < requests   the first request that these answers answer otherwise
   reference make SEED KIND COUNT > requests
-      KIND: cnf, problem, limits, witness, cases, refute, find, trivial, aiger, texts; broken with the number of a
-      stream for COUNT
+      KIND: cnf, problem, limits, witness, cases, refute, find, trivial, aiger, texts; of version 2 constraints,
+      constraint-limits, constraint-witness, constraint-cases, constraint-refute, constraint-find; broken with the
+      number of a stream for COUNT
   reference streams                 how many broken streams there are
   reference tally SEED KIND COUNT   how often each call gives each answer, and at how many places
   reference selfcheck SEED
   reference text < jobfile
   reference job WORD... > jobfile
-  reference jobs SEED COUNT FOLDER";
+  reference jobs SEED COUNT FOLDER
+  reference constraint-jobs SEED COUNT FOLDER";
 
 fn number<T: std::str::FromStr>(text: &str) -> Result<T, String> {
     text.parse().map_err(|_| format!("{text} is not a number"))
@@ -84,8 +86,8 @@ fn tally(seed: &str, kind: &str, count: &str) -> Result<(), String> {
     Ok(())
 }
 
-fn write_jobs(seed: &str, count: &str, folder: &str) -> Result<(), String> {
-    for (at, bytes) in make::job_files(number(seed)?, number(count)?).iter().enumerate() {
+fn write_jobs(files: &[Vec<u8>], folder: &str) -> Result<(), String> {
+    for (at, bytes) in files.iter().enumerate() {
         let path = format!("{folder}/{at:04}.job");
         std::fs::write(&path, bytes).map_err(|error| format!("{path}: {error}"))?;
     }
@@ -106,9 +108,12 @@ fn run(arguments: &[&str]) -> Result<(), String> {
         ["text"] => job_text(),
         ["job", words @ ..] => {
             let words: Result<Vec<u32>, String> = words.iter().map(|word| number(word)).collect();
-            print(&job::file(&words?))
+            print(&job::file(1, &words?))
         }
-        ["jobs", seed, count, folder] => write_jobs(seed, count, folder),
+        ["jobs", seed, count, folder] => write_jobs(&make::job_files(number(seed)?, number(count)?), folder),
+        ["constraint-jobs", seed, count, folder] => {
+            write_jobs(&make::constraints::job_files(number(seed)?, number(count)?), folder)
+        }
         _ => Err(USAGE.to_string()),
     }
 }

@@ -1,4 +1,4 @@
-//! The problem words of document 01 and their check: answers 15 and 1 to 5.
+//! The problem words of document 01, with the constraints of document 02, and their check: answers 15 and 1 to 5.
 
 /// The paper's number of an answer and its place.
 #[derive(Clone, Copy, PartialEq, Eq, Debug)]
@@ -27,9 +27,18 @@ pub const RELEASE: u32 = 7;
 /// How many children each op has.
 pub const CHILDREN: [usize; 8] = [0, 2, 2, 1, 1, 1, 2, 2];
 
-/// The limits of I, L, A, N, k.
-pub const LEAST: [u32; 5] = [0, 0, 0, 1, 0];
-pub const MOST: [u32; 5] = [64, 64, 1024, 64, 31];
+/// The limits of I, L, A, N, k, D.
+pub const LEAST: [u32; 6] = [0, 0, 0, 1, 0, 0];
+pub const MOST: [u32; 6] = [64, 64, 1024, 64, 31, 16];
+
+/// How many of these words the header of a version has; other versions are not known.
+pub fn header(version: u32) -> Option<usize> {
+    match version {
+        1 => Some(5),
+        2 => Some(6),
+        _ => None,
+    }
+}
 
 #[derive(Clone, Copy, Debug)]
 pub struct Node {
@@ -45,6 +54,8 @@ pub struct Problem {
     /// Next literal and reset.
     pub latches: Vec<(u32, u32)>,
     pub gates: Vec<(u32, u32)>,
+    /// Literals that are true at all positions.
+    pub constraints: Vec<u32>,
     pub nodes: Vec<Node>,
     pub k: usize,
 }
@@ -60,74 +71,100 @@ impl Problem {
     }
 }
 
-/// The number of words that the first five ask for.
-pub fn length_asked(head: &[u32]) -> usize {
-    5 + 2 * head[1] as usize + 2 * head[2] as usize + 3 * head[3] as usize
+/// What a header says of the words: their sizes, and where each part begins.
+pub struct Parts {
+    inputs: usize,
+    latches: usize,
+    width: usize,
+    latches_from: usize,
+    gates_from: usize,
+    constraints_from: usize,
+    nodes_from: usize,
+    pub length: usize,
 }
 
-/// For a word past the first five: the refusal that guards it, and its largest value (-1: it has none).
-pub fn guard(words: &[u32], place: usize) -> (u32, i64) {
-    let (inputs, latches, gates) = (words[0] as usize, words[1] as usize, words[2] as usize);
-    let any_literal = 2 * (inputs + latches + gates) as i64 + 1;
-    let gates_from = 5 + 2 * latches;
-    let nodes_from = gates_from + 2 * gates;
-    if place < gates_from {
-        return if (place - 5) % 2 == 0 { (4, any_literal) } else { (3, 2) };
+impl Parts {
+    /// A header of version 1 has no D, which means that D is 0.
+    pub fn new(header: usize, words: &[u32]) -> Parts {
+        let size = |at: usize| if at < header { words[at] as usize } else { 0 };
+        let (inputs, latches, gates, nodes, constraints) = (size(0), size(1), size(2), size(3), size(5));
+        let gates_from = header + 2 * latches;
+        let constraints_from = gates_from + 2 * gates;
+        let nodes_from = constraints_from + constraints;
+        Parts {
+            inputs,
+            latches,
+            width: inputs + latches + gates,
+            latches_from: header,
+            gates_from,
+            constraints_from,
+            nodes_from,
+            length: nodes_from + 3 * nodes,
+        }
     }
-    if place < nodes_from {
-        let own = inputs + latches + 1 + (place - gates_from) / 2;
-        return (4, 2 * own as i64 - 1);
+
+    /// For a word past the header: the refusal that guards it, and its largest value (-1: it has none).
+    pub fn guard(&self, words: &[u32], place: usize) -> (u32, i64) {
+        let any_literal = 2 * self.width as i64 + 1;
+        if place < self.gates_from {
+            return if (place - self.latches_from) % 2 == 0 { (4, any_literal) } else { (3, 2) };
+        }
+        if place < self.constraints_from {
+            let own = self.inputs + self.latches + 1 + (place - self.gates_from) / 2;
+            return (4, 2 * own as i64 - 1);
+        }
+        if place < self.nodes_from {
+            return (4, any_literal);
+        }
+        let node = (place - self.nodes_from) / 3;
+        let op = words[self.nodes_from + 3 * node];
+        let children = CHILDREN.get(op as usize).copied().unwrap_or(0);
+        let latest_child = node as i64 - 1;
+        let most = match (place - self.nodes_from) % 3 {
+            0 => 7,
+            1 if op == ATOM => any_literal,
+            1 => latest_child,
+            _ if children == 2 => latest_child,
+            _ => 0,
+        };
+        (5, most)
     }
-    let node = (place - nodes_from) / 3;
-    let op = words[nodes_from + 3 * node];
-    let children = CHILDREN.get(op as usize).copied().unwrap_or(0);
-    let latest_child = node as i64 - 1;
-    let most = match (place - nodes_from) % 3 {
-        0 => 7,
-        1 if op == ATOM => any_literal,
-        1 => latest_child,
-        _ if children == 2 => latest_child,
-        _ => 0,
-    };
-    (5, most)
+
+    /// Takes words that passed the check apart.
+    fn read(&self, words: &[u32]) -> Problem {
+        let pairs = |part: &[u32]| part.chunks(2).map(|p| (p[0], p[1])).collect();
+        let node = |n: &[u32]| Node { op: n[0], a: n[1] as usize, b: n[2] as usize };
+        Problem {
+            inputs: self.inputs,
+            latches: pairs(&words[self.latches_from..self.gates_from]),
+            gates: pairs(&words[self.gates_from..self.constraints_from]),
+            constraints: words[self.constraints_from..self.nodes_from].to_vec(),
+            nodes: words[self.nodes_from..].chunks(3).map(node).collect(),
+            k: words[4] as usize,
+        }
+    }
 }
 
-/// Checks in the fixed order: version, 5 words, limits, length, then every word in order.
+/// Checks in the fixed order: version, the header's words, limits, length, then every word in order.
 pub fn check(version: u32, words: &[u32]) -> Result<Problem, Answer> {
-    if version != 1 {
-        return Err(refused(15, 0));
-    }
-    if words.len() < 5 {
+    let header = header(version).ok_or(refused(15, 0))?;
+    if words.len() < header {
         return Err(refused(1, words.len()));
     }
-    for place in 0..5 {
+    for place in 0..header {
         if words[place] < LEAST[place] || words[place] > MOST[place] {
             return Err(refused(2, place));
         }
     }
-    if words.len() != length_asked(words) {
+    let parts = Parts::new(header, words);
+    if words.len() != parts.length {
         return Err(refused(1, words.len()));
     }
-    for place in 5..words.len() {
-        let (number, most) = guard(words, place);
+    for place in header..words.len() {
+        let (number, most) = parts.guard(words, place);
         if i64::from(words[place]) > most {
             return Err(refused(number, place));
         }
     }
-    Ok(read(words))
-}
-
-/// Takes words that passed the check apart.
-fn read(words: &[u32]) -> Problem {
-    let gates_from = 5 + 2 * words[1] as usize;
-    let nodes_from = gates_from + 2 * words[2] as usize;
-    let pairs = |part: &[u32]| part.chunks(2).map(|p| (p[0], p[1])).collect();
-    let node = |n: &[u32]| Node { op: n[0], a: n[1] as usize, b: n[2] as usize };
-    Problem {
-        inputs: words[0] as usize,
-        latches: pairs(&words[5..gates_from]),
-        gates: pairs(&words[gates_from..nodes_from]),
-        nodes: words[nodes_from..].chunks(3).map(node).collect(),
-        k: words[4] as usize,
-    }
+    Ok(parts.read(words))
 }

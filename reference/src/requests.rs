@@ -101,6 +101,18 @@ impl Request {
         }
     }
 
+    /// The version and the words of a request about a problem.
+    pub fn problem_mut(&mut self) -> Option<(&mut u32, &mut Vec<u32>)> {
+        match self {
+            Request::Check { version, problem }
+            | Request::Cnf { version, problem, .. }
+            | Request::Witness { version, problem, .. }
+            | Request::Refutation { version, problem, .. }
+            | Request::Find { version, problem, .. } => Some((version, problem)),
+            Request::Bare { .. } | Request::ReadAiger { .. } | Request::WriteAiger { .. } => None,
+        }
+    }
+
     pub fn bytes(&self) -> Vec<u8> {
         let (call, number) = self.call();
         let mut out = vec![call];

@@ -1,11 +1,11 @@
-//! Witnesses: answers 7 to 10, by the meaning of the formula on the run itself.
+//! Witnesses: answers 7 to 10 and 20, by the meaning of the formula on the run itself.
 
 use crate::problem::*;
 
 /// Values of the circuit variables at each position; entry 0 is the constant false.
-type Run = Vec<Vec<bool>>;
+pub type Run = Vec<Vec<bool>>;
 
-fn literal(values: &[bool], literal: usize) -> bool {
+pub fn literal(values: &[bool], literal: usize) -> bool {
     values[literal / 2] != (literal % 2 == 1)
 }
 
@@ -25,7 +25,8 @@ fn next_latches(problem: &Problem, values: &[bool]) -> Vec<bool> {
     problem.latches.iter().map(|&(next, _)| literal(values, next as usize)).collect()
 }
 
-fn run(problem: &Problem, bytes: &[u8]) -> Run {
+/// The run that bytes in range show.
+pub fn run(problem: &Problem, bytes: &[u8]) -> Run {
     let inputs_from = 1 + problem.latches.len();
     let mut latches: Vec<bool> = bytes[1..inputs_from].iter().map(|&byte| byte == 1).collect();
     let mut run = Run::new();
@@ -108,6 +109,12 @@ fn bytes_in_range(problem: &Problem, bytes: &[u8]) -> Option<Answer> {
     bad.map(|place| refused(7, place))
 }
 
+/// The first position at which some constraint is false.
+fn first_breach(problem: &Problem, run: &Run) -> Option<usize> {
+    let holds = |values: &[bool]| problem.constraints.iter().all(|&c| literal(values, c as usize));
+    run.iter().position(|values| !holds(values))
+}
+
 /// Judges witness bytes for a problem that passed the check.
 pub fn judge(problem: &Problem, bytes: &[u8]) -> Answer {
     if let Some(answer) = bytes_in_range(problem, bytes) {
@@ -126,6 +133,9 @@ pub fn judge(problem: &Problem, bytes: &[u8]) -> Answer {
         if let Some(latch) = (0..wanted.len()).find(|&latch| wanted[latch] != here[latch]) {
             return refused(9, latch);
         }
+    }
+    if let Some(position) = first_breach(problem, &run) {
+        return refused(20, position);
     }
     if formula(problem, &run, start) {
         yes(0)

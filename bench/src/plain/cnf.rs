@@ -111,15 +111,20 @@ impl Writer<'_> {
         }
     }
 
-    /// Items 2 to 4: gates, resets, steps.
+    /// Items 2 to 4: gates and after them the constraints, resets, steps.
     fn run(&mut self) {
-        let Problem { latches, gates, bound, .. } = self.problem;
+        let Problem { latches, gates, constraints, bound, .. } = self.problem;
         let (first_latch, first_gate) = (self.numbers.latches, self.numbers.gates);
         for t in 0..=bound as i32 {
             for (gate, &[left, right]) in (first_gate..).zip(gates) {
                 let n = &self.numbers;
                 let (x, a, b) = (n.circuit(gate, t), n.literal(left, t), n.literal(right, t));
                 self.or(-x, -a, -b);
+            }
+        }
+        for t in 0..=bound as i32 {
+            for &constraint in constraints {
+                self.clause([self.numbers.literal(constraint, t)]);
             }
         }
         for (latch, &[_, reset]) in (first_latch..).zip(latches) {

@@ -44,13 +44,14 @@ pub const FORMS: [Size; 8] = {
     [equal, or, or, equal, until, until, until, until]
 };
 
-/// Items 1 to 8 in order, from the number of fixed resets and the size of all nodes' forms at one position.
+/// Items 1 to 8 in order, the constraints after item 2, from the number of fixed resets and the size of all nodes' forms at one position.
 pub fn counts(problem: &Problem, fixed: usize, forms: Size) -> Counts {
-    let Problem { latches, gates, nodes, bound, .. } = problem;
+    let Problem { latches, gates, constraints, nodes, bound, .. } = problem;
     let (latches, gates, nodes, positions) = (latches.len(), gates.len(), nodes.len(), bound + 1);
     let items = [
         clause(1),
         OR.times(positions * gates),
+        clause(1).times(positions * constraints.len()),
         clause(1).times(fixed),
         EQUAL.times(bound * latches),
         SELECTED.times(positions * latches),

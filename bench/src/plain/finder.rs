@@ -1,7 +1,7 @@
 //! The finder of the first witness in byte order: answers 15, 1 to 5, 17, 18, and 0 or 29.
 
 use super::problem::*;
-use super::witness::{check_loop, formula, gates, rows, truths, value};
+use super::witness::{check_loop, constraints_hold, formula, gates, rows, truths, value};
 use super::{answer, Answer};
 
 /// The reset of a latch that may start with either value.
@@ -81,20 +81,25 @@ impl<'a> Search<'a> {
         }
     }
 
-    /// The gates at each position, and the latches that they give at the next.
-    fn value_rows(&mut self) {
+    /// The gates at each position, and the latches that they give at the next; whether the run meets the constraints. One that does not is
+    /// given up at the first position that breaks one.
+    fn value_rows(&mut self) -> bool {
         let Problem { inputs, latches, bound, .. } = self.problem;
         let width = self.problem.width() + 1;
         for (t, row) in self.rows.chunks_exact_mut(width).enumerate() {
             let given = inputs + latches.len();
             row[1..][..given].copy_from_slice(&self.run[t][..given]);
             gates(&self.problem, row);
+            if !constraints_hold(&self.problem, row) {
+                return false;
+            }
             if t < bound {
                 for (bit, &[next, _]) in self.run[t + 1][inputs..].iter_mut().zip(latches) {
                     *bit = value(row, next);
                 }
             }
         }
+        true
     }
 
     /// Whether the run with this first byte is a witness; a loop that does not close costs no node.
@@ -110,7 +115,9 @@ impl<'a> Search<'a> {
         let mut below = self.problem.bound + 2;
         for number in 0..1 << self.free {
             self.fill(number);
-            self.value_rows();
+            if !self.value_rows() {
+                continue;
+            }
             if let Some(first) = (0..below).find(|&first| self.shows(first)) {
                 found = Some((first, self.run));
                 below = first;

@@ -12,14 +12,15 @@ pub const GLOBALLY: u32 = 5;
 pub const UNTIL: u32 = 6;
 pub const RELEASE: u32 = 7;
 
-const HEADER: usize = 5;
+/// The words of the longest header.
+const HEADER: usize = 6;
 
 /// How many children each op has.
 const CHILDREN: [usize; 8] = [0, 2, 2, 1, 1, 1, 2, 2];
 
-/// The limits of I, L, A, N, k.
-pub const LEAST: [u32; HEADER] = [0, 0, 0, 1, 0];
-pub const MOST: [u32; HEADER] = [64, 64, 1024, 64, 31];
+/// The limits of I, L, A, N, k, D.
+pub const LEAST: [u32; HEADER] = [0, 0, 0, 1, 0, 0];
+pub const MOST: [u32; HEADER] = [64, 64, 1024, 64, 31, 16];
 
 #[derive(Clone, Copy)]
 pub struct Problem<'a> {
@@ -27,6 +28,7 @@ pub struct Problem<'a> {
     /// Next literal and reset.
     pub latches: &'a [[u32; 2]],
     pub gates: &'a [[u32; 2]],
+    pub constraints: &'a [u32],
     /// Op, a, b.
     pub nodes: &'a [[u32; 3]],
     pub bound: usize,
@@ -47,38 +49,53 @@ pub fn check(version: u32, words: &[u32]) -> (Answer, Counts) {
     }
 }
 
-/// In the fixed order: version, 5 words, limits, length, then every word in order.
-pub fn checked(version: u32, words: &[u32]) -> Result<(Problem<'_>, Counts), Answer> {
-    if version != 1 {
-        return Err(answer(15, 0));
-    }
-    let Some((&header, rest)) = words.split_first_chunk::<HEADER>() else {
+/// The words of a version's header, with D as 0 where it has none, and the words after it.
+fn split(version: u32, words: &[u32]) -> Result<([u32; HEADER], &[u32]), Answer> {
+    let mut header = [0; HEADER];
+    let length = match version {
+        1 => HEADER - 1,
+        2 => HEADER,
+        _ => return Err(answer(15, 0)),
+    };
+    let Some((sizes, rest)) = words.split_at_checked(length) else {
         return Err(answer(1, words.len()));
     };
+    header[..length].copy_from_slice(sizes);
+    Ok((header, rest))
+}
+
+/// In the fixed order: version, the header's words, limits, length, then every word in order.
+pub fn checked(version: u32, words: &[u32]) -> Result<(Problem<'_>, Counts), Answer> {
+    let (header, rest) = split(version, words)?;
     if let Some(place) = (0..HEADER).find(|&at| header[at] < LEAST[at] || header[at] > MOST[at]) {
         return Err(answer(2, place));
     }
-    let [inputs, latches, gates, nodes, bound] = header.map(|word| word as usize);
-    if rest.len() != 2 * latches + 2 * gates + 3 * nodes {
+    let [inputs, latches, gates, nodes, bound, constraints] = header.map(|word| word as usize);
+    if rest.len() != 2 * latches + 2 * gates + constraints + 3 * nodes {
         return Err(answer(1, words.len()));
     }
+    let from = words.len() - rest.len();
     let (latch_words, rest) = rest.split_at(2 * latches);
-    let (gate_words, node_words) = rest.split_at(2 * gates);
+    let (gate_words, rest) = rest.split_at(2 * gates);
+    let (constraints, node_words) = rest.split_at(constraints);
     let (latches, gates, nodes) =
         (latch_words.as_chunks().0, gate_words.as_chunks().0, node_words.as_chunks().0);
-    let problem = Problem { inputs, latches, gates, nodes, bound };
-    let fixed = check_latches(&problem)?;
-    check_gates(&problem)?;
-    let forms = check_nodes(&problem)?;
+    let problem = Problem { inputs, latches, gates, constraints, nodes, bound };
+    let fixed = check_latches(&problem, from)?;
+    let from = from + latch_words.len();
+    check_gates(&problem, from)?;
+    let from = from + gate_words.len();
+    check_constraints(&problem, from)?;
+    let forms = check_nodes(&problem, from + constraints.len())?;
     Ok((problem, counts(&problem, fixed, forms)))
 }
 
-/// Answers how many resets are fixed.
-fn check_latches(problem: &Problem) -> Result<usize, Answer> {
+/// Answers how many resets are fixed. The latches begin at this word, as do the other parts below.
+fn check_latches(problem: &Problem, from: usize) -> Result<usize, Answer> {
     let most = 2 * problem.width() as u32 + 1;
     let mut fixed = 0;
     for (i, &[next, reset]) in problem.latches.iter().enumerate() {
-        let at = HEADER + 2 * i;
+        let at = from + 2 * i;
         if next > most {
             return Err(answer(4, at));
         }
@@ -90,8 +107,7 @@ fn check_latches(problem: &Problem) -> Result<usize, Answer> {
     Ok(fixed)
 }
 
-fn check_gates(problem: &Problem) -> Result<(), Answer> {
-    let from = HEADER + 2 * problem.latches.len();
+fn check_gates(problem: &Problem, from: usize) -> Result<(), Answer> {
     let first = problem.inputs + problem.latches.len() + 1;
     for (j, &[left, right]) in problem.gates.iter().enumerate() {
         let own = 2 * (first + j) as u32;
@@ -106,9 +122,16 @@ fn check_gates(problem: &Problem) -> Result<(), Answer> {
     Ok(())
 }
 
+fn check_constraints(problem: &Problem, from: usize) -> Result<(), Answer> {
+    let most = 2 * problem.width() as u32 + 1;
+    match problem.constraints.iter().position(|&literal| literal > most) {
+        Some(bad) => Err(answer(4, from + bad)),
+        None => Ok(()),
+    }
+}
+
 /// Answers the size of all nodes' forms at one position.
-fn check_nodes(problem: &Problem) -> Result<Size, Answer> {
-    let from = HEADER + 2 * (problem.latches.len() + problem.gates.len());
+fn check_nodes(problem: &Problem, from: usize) -> Result<Size, Answer> {
     // Whatever stands below these is right; a child is below its node's number.
     let literals = 2 * problem.width() as u32 + 2;
     let mut forms = Size::default();

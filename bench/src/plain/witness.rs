@@ -1,4 +1,4 @@
-//! The judge of a witness: answers 15, 1 to 5, and 7 to 10.
+//! The judge of a witness: answers 15, 1 to 5, 7 to 9, 20 and 10.
 
 use super::problem::*;
 use super::{answer, Answer, YES};
@@ -15,6 +15,7 @@ fn judged(version: u32, words: &[u32], witness: &[u8]) -> Result<(), Answer> {
     if let Some(start) = start {
         check_loop(&problem, &rows, start)?;
     }
+    check_constraints(&problem, &rows)?;
     if formula(&problem, &rows, start, &mut truths(&problem)) {
         Ok(())
     } else {
@@ -61,7 +62,7 @@ pub fn gates(problem: &Problem, row: &mut [bool]) {
 }
 
 /// The rows of the run that a witness shows.
-fn run(problem: &Problem, witness: &[u8]) -> Vec<bool> {
+pub fn run(problem: &Problem, witness: &[u8]) -> Vec<bool> {
     let (inputs, latches) = (problem.inputs, problem.latches.len());
     let width = problem.width() + 1;
     let mut rows = rows(problem);
@@ -95,6 +96,20 @@ pub fn check_loop(problem: &Problem, rows: &[bool], start: usize) -> Result<(), 
         }
     }
     Ok(())
+}
+
+/// Whether every constraint holds at the position of a row.
+pub fn constraints_hold(problem: &Problem, row: &[bool]) -> bool {
+    problem.constraints.iter().all(|&literal| value(row, literal))
+}
+
+/// 20: the first position at which a constraint is false.
+fn check_constraints(problem: &Problem, rows: &[bool]) -> Result<(), Answer> {
+    let mut rows = rows.chunks_exact(problem.width() + 1);
+    match rows.position(|row| !constraints_hold(problem, row)) {
+        Some(position) => Err(answer(20, position)),
+        None => Ok(()),
+    }
 }
 
 /// A node's values from the last position down; `of` gives one from its position and the node's value at the next.

@@ -4,20 +4,24 @@ use crate::plain::problem::*;
 use crate::plain::{witness, YES};
 use crate::random::Random;
 
+/// The version of words without constraints, and of words with them.
 pub const VERSION: u32 = 1;
+pub const CONSTRAINED: u32 = 2;
 
 const INPUTS: usize = MOST[0] as usize;
 const LATCHES: usize = MOST[1] as usize;
 const GATES: usize = MOST[2] as usize;
 const NODES: usize = MOST[3] as usize;
 const BOUND: usize = MOST[4] as usize;
+pub const CONSTRAINTS: usize = MOST[5] as usize;
 
 const FIRST_GATE: usize = 1 + INPUTS + LATCHES;
 const VARIABLES: usize = FIRST_GATE + GATES;
 const LITERALS: usize = 2 * VARIABLES;
 
-/// A problem's words and a witness of it.
+/// A problem's version and words, and a witness of it.
 pub struct Shown {
+    pub version: u32,
     pub words: Vec<u32>,
     pub witness: Vec<u8>,
 }
@@ -27,7 +31,14 @@ fn turned(random: &mut Random, variable: usize) -> u32 {
 }
 
 fn words(latches: &[[u32; 2]], gates: &[[u32; 2]], nodes: &[[u32; 3]]) -> Vec<u32> {
-    [&MOST[..], latches.as_flattened(), gates.as_flattened(), nodes.as_flattened()].concat()
+    [&MOST[..5], latches.as_flattened(), gates.as_flattened(), nodes.as_flattened()].concat()
+}
+
+/// Good words without constraints as words with these.
+pub fn with_constraints(words: &[u32], constraints: &[u32]) -> Vec<u32> {
+    let (header, rest) = words.split_at(5);
+    let (circuit, nodes) = rest.split_at(2 * (words[1] + words[2]) as usize);
+    [header, &[constraints.len() as u32], circuit, constraints, nodes].concat()
 }
 
 fn bits(random: &mut Random, count: usize) -> Vec<u8> {
@@ -87,7 +98,7 @@ fn prefix(random: &mut Random) -> Shown {
     let latches: Vec<_> = (0..LATCHES).map(|_| latch(random)).collect();
     let words = words(&latches, &gates(random), &formula(random, NODES, LITERALS));
     let inputs: Vec<_> = (0..=BOUND).map(|_| bits(random, INPUTS)).collect();
-    Shown { words, witness: bytes(random, 0, &latches, &inputs) }
+    Shown { version: VERSION, words, witness: bytes(random, 0, &latches, &inputs) }
 }
 
 /// A latch's next value rests on the inputs alone, so that the loop closes where the inputs at k are those before its start.
@@ -102,7 +113,7 @@ fn lasso(random: &mut Random) -> Shown {
     let mut inputs: Vec<_> = (0..=BOUND).map(|_| bits(random, INPUTS)).collect();
     let start = random.between(1, BOUND);
     inputs[BOUND] = inputs[start - 1].clone();
-    Shown { words, witness: bytes(random, start + 1, &latches, &inputs) }
+    Shown { version: VERSION, words, witness: bytes(random, start + 1, &latches, &inputs) }
 }
 
 fn witnesses(seed: u64, count: usize, make: fn(&mut Random) -> Shown) -> Vec<Shown> {
@@ -122,6 +133,26 @@ pub fn lassos(seed: u64, count: usize) -> Vec<Shown> {
     witnesses(seed, count, lasso)
 }
 
+/// Literals that are true at all positions of the run that is shown, as many as there may be constraints.
+fn met(random: &mut Random, shown: &Shown) -> Vec<u32> {
+    let (problem, _) = checked(shown.version, &shown.words).expect("what is shown is good");
+    let rows = witness::run(&problem, &shown.witness);
+    let holds = |&literal: &u32| rows.chunks_exact(VARIABLES).all(|row| witness::value(row, literal));
+    let all: Vec<u32> = (2..LITERALS as u32).filter(holds).collect();
+    (0..CONSTRAINTS).map(|_| random.pick(&all)).collect()
+}
+
+/// The same problems and runs with as many constraints as there may be, all of which the run meets.
+pub fn constrained(seed: u64, shown: &[Shown]) -> Vec<Shown> {
+    let random = &mut Random::new(seed);
+    let constrained = |shown: &Shown| Shown {
+        version: CONSTRAINED,
+        words: with_constraints(&shown.words, &met(random, shown)),
+        witness: shown.witness.clone(),
+    };
+    shown.iter().map(constrained).collect()
+}
+
 /// The words of a problem whose CNF is as long as one can be: every reset fixed, and U or R nodes over one atom.
 pub fn largest(seed: u64) -> Vec<u32> {
     let random = &mut Random::new(seed);
@@ -132,11 +163,19 @@ pub fn largest(seed: u64) -> Vec<u32> {
     words(&latches, &gates(random), &nodes)
 }
 
-/// A good problem of any sizes: the first latches, gates and nodes of one at all limits, and their literals as remainders by what is left.
-pub fn resized(random: &mut Random, words: &[u32]) -> Vec<u32> {
-    let (problem, _) = checked(VERSION, words).expect("a problem at all limits is good");
-    let sizes: [_; 5] = std::array::from_fn(|at| random.between(LEAST[at] as usize, MOST[at] as usize));
-    let [inputs, latches, gates, nodes, _] = sizes;
+/// The same with as many constraints as there may be.
+pub fn largest_constrained(seed: u64) -> Vec<u32> {
+    let random = &mut Random::new(seed);
+    let constraints: Vec<_> = (0..CONSTRAINTS).map(|_| random.below(LITERALS) as u32).collect();
+    with_constraints(&largest(seed), &constraints)
+}
+
+/// A good problem of any sizes and of the same version: the first latches, gates, constraints and nodes of one at all limits, and their
+/// literals as remainders by what is left.
+pub fn resized(random: &mut Random, version: u32, words: &[u32]) -> Vec<u32> {
+    let (problem, _) = checked(version, words).expect("a problem at all limits is good");
+    let sizes: [_; 6] = std::array::from_fn(|at| random.between(LEAST[at] as usize, MOST[at] as usize));
+    let [inputs, latches, gates, nodes, _, constraints] = sizes;
     let first = 1 + inputs + latches;
     let literals = 2 * (first + gates) as u32;
     let latches = problem.latches[..latches].iter().map(|&[next, reset]| [next % literals, reset]);
@@ -144,6 +183,12 @@ pub fn resized(random: &mut Random, words: &[u32]) -> Vec<u32> {
     let gates = gates.map(|(own, sides)| sides.map(|side| side % (2 * own)));
     let nodes = problem.nodes[..nodes].iter();
     let nodes = nodes.map(|&[op, a, b]| [op, if op == ATOM { a % literals } else { a }, b]);
-    let sizes = sizes.into_iter().map(|size| size as u32);
-    sizes.chain(latches.flatten()).chain(gates.flatten()).chain(nodes.flatten()).collect()
+    let sizes = sizes.into_iter().take(5).map(|size| size as u32);
+    let words: Vec<_> =
+        sizes.chain(latches.flatten()).chain(gates.flatten()).chain(nodes.flatten()).collect();
+    if version == VERSION {
+        return words;
+    }
+    let constraints = problem.constraints[..constraints].iter();
+    with_constraints(&words, &constraints.map(|&literal| literal % literals).collect::<Vec<_>>())
 }

@@ -1,6 +1,6 @@
 //! Problems with few free bits, whose first witness in byte order is known: ones that a search has to go all through, and small ones.
 
-use super::circuits::formula;
+use super::circuits::{formula, with_constraints, CONSTRAINED, CONSTRAINTS, VERSION};
 use crate::plain::problem::*;
 use crate::random::Random;
 
@@ -13,10 +13,20 @@ const BOUND: usize = MOST[4] as usize;
 const TRUE: u32 = 1;
 const FREE: u32 = 2;
 
-/// A problem's words, and its first witness if it has one.
+/// A problem's version and words, and its first witness if it has one.
 pub struct Sought {
+    pub version: u32,
     pub words: Vec<u32>,
     pub witness: Option<Vec<u8>>,
+}
+
+fn unconstrained(words: Vec<u32>, witness: Option<Vec<u8>>) -> Sought {
+    Sought { version: VERSION, words, witness }
+}
+
+/// A problem of these words and constraints without a witness.
+fn none_constrained((words, constraints): (Vec<u32>, Vec<u32>)) -> Sought {
+    Sought { version: CONSTRAINED, words: with_constraints(&words, &constraints), witness: None }
 }
 
 /// Inputs and latches, and the gates over them as far as they are made. A gate is named by its literal.
@@ -116,16 +126,36 @@ pub fn none_of_latches(seed: u64) -> Sought {
     let random = &mut Random::new(seed);
     let mut circuit = Circuit::new(0, LATCHES);
     let latches: Vec<_> = circuit.rings(random, GATES).into_iter().map(|next| [next, FREE]).collect();
-    Sought { words: circuit.words(&latches, &circuit.never(random), BOUND), witness: None }
+    unconstrained(circuit.words(&latches, &circuit.never(random), BOUND), None)
 }
 
-/// As many runs by one input at 16 positions, and no witness.
-pub fn none_of_inputs(seed: u64) -> Sought {
+/// As many runs by one input at 16 positions, and no witness; and constraints over gates that are made first, if any.
+fn by_input(seed: u64, constraints: impl Fn(&mut Circuit) -> Vec<u32>) -> (Vec<u32>, Vec<u32>) {
     let random = &mut Random::new(seed);
     let mut circuit = Circuit::new(1, LATCHES);
+    let constraints = constraints(&mut circuit);
     let next = circuit.rings(random, GATES / 4);
     let latches: Vec<_> = next.into_iter().map(|next| [next, random.below(2) as u32]).collect();
-    Sought { words: circuit.words(&latches, &circuit.never(random), 15), witness: None }
+    (circuit.words(&latches, &circuit.never(random), 15), constraints)
+}
+
+pub fn none_of_inputs(seed: u64) -> Sought {
+    unconstrained(by_input(seed, |_| vec![]).0, None)
+}
+
+/// The same with as many constraints as there may be, which every run meets: no latch is on and off at once.
+pub fn none_of_met(seed: u64) -> Sought {
+    let never_both = |circuit: &mut Circuit| {
+        let latches = circuit.latches.clone();
+        latches.iter().take(CONSTRAINTS).map(|&latch| circuit.and(latch, latch ^ 1) ^ 1).collect()
+    };
+    none_constrained(by_input(seed, never_both))
+}
+
+/// The same with one constraint that most runs break: the input and a latch are not both on.
+pub fn none_of_broken(seed: u64) -> Sought {
+    let not_both = |circuit: &mut Circuit| vec![circuit.and(circuit.inputs[0], circuit.latches[0]) ^ 1];
+    none_constrained(by_input(seed, not_both))
 }
 
 /// Latches that keep their values, so that every loop closes, and no witness.
@@ -134,7 +164,7 @@ pub fn none_of_loops(seed: u64, free: usize) -> Sought {
     let mut circuit = Circuit::new(0, free);
     circuit.fill(random, GATES);
     let latches: Vec<_> = circuit.latches.iter().map(|&own| [own, FREE]).collect();
-    Sought { words: circuit.words(&latches, &circuit.never(random), BOUND), witness: None }
+    unconstrained(circuit.words(&latches, &circuit.never(random), BOUND), None)
 }
 
 /// One witness, the last run of all as a lasso from position 0: G of the state that is all true.
@@ -147,7 +177,7 @@ pub fn last_of_lassos(seed: u64, free: usize) -> Sought {
     let mut nodes = formula(random, NODES - 4, circuit.literals());
     let n = nodes.len() as u32;
     nodes.extend([[ATOM, full, 0], [GLOBALLY, n, 0], [OR, n - 1, n + 1], [AND, n + 1, n + 2]]);
-    Sought { words: circuit.words(&latches, &nodes, BOUND), witness: Some(vec![1; 1 + LATCHES]) }
+    unconstrained(circuit.words(&latches, &nodes, BOUND), Some(vec![1; 1 + LATCHES]))
 }
 
 /// A meter that counts hours in 16 bits, the highest first, and lights a lamp from 1,024 on. From any count, the lamp goes out within 7 hours:
@@ -167,11 +197,11 @@ pub fn meter() -> Sought {
     let nodes = [[ATOM, dark ^ 1, 0], [ATOM, dark, 0], [NEXT, 1, 0], [AND, 0, 2], [FINALLY, 3, 0]];
     let bits = |count: u16| (0..16).rev().map(move |bit| (count >> bit & 1) as u8);
     let witness = [0].into_iter().chain(bits(u16::MAX - 6)).collect();
-    Sought { words: circuit.words(&latches, &nodes, 7), witness: Some(witness) }
+    unconstrained(circuit.words(&latches, &nodes, 7), Some(witness))
 }
 
-/// A small random problem with so many free bits.
-pub fn small(random: &mut Random, free: usize) -> Vec<u32> {
+/// A small random problem with so many free bits, with a few constraints or of the version that has none.
+pub fn small(random: &mut Random, free: usize) -> (u32, Vec<u32>) {
     let bound = random.below(6);
     let inputs = random.below(free / (bound + 1) + 1);
     let mut resets = vec![FREE; free - inputs * (bound + 1)];
@@ -186,5 +216,10 @@ pub fn small(random: &mut Random, free: usize) -> Vec<u32> {
     let literals = circuit.literals();
     let latches: Vec<_> = resets.into_iter().map(|reset| [random.below(literals) as u32, reset]).collect();
     let nodes = random.between(1, 10);
-    circuit.words(&latches, &formula(random, nodes, literals), bound)
+    let words = circuit.words(&latches, &formula(random, nodes, literals), bound);
+    if random.one_in(2) {
+        return (VERSION, words);
+    }
+    let constraints: Vec<_> = (0..random.below(3)).map(|_| random.below(literals) as u32).collect();
+    (CONSTRAINED, with_constraints(&words, &constraints))
 }

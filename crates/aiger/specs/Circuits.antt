@@ -23,17 +23,19 @@ abbrev pub header-size : ℕ
 header-size = 4
 
 -- The latches and gates stand as in a problem's words, after this header; document 01's checks of them go by such an outline. Where a problem has its
--- nodes, a circuit has its outputs.
+-- nodes, a circuit has its outputs; it has no constraints.
 abbrev pub circuit : Sizes → Outline
 circuit s = record {
   inputs = s .inputs;
   latches = s .latches;
   gates = s .gates;
+  constraints = 0;
   nodes = 0;
   bound = 0;
   width = s .inputs + s .latches + s .gates;
   latches-from = header-size;
   gates-from = header-size + 2 * s .latches;
+  constraints-from = header-size + 2 * s .latches + 2 * s .gates;
   nodes-from = header-size + 2 * s .latches + 2 * s .gates;
 }
 

@@ -25,7 +25,7 @@ use Rattle.meaning.specs.Cnf.{cnf, cnf-words, variables}
 use Rattle.meaning.specs.Calls.{WellFormed, judge-bytes, room-checks, write-cnf, room-after-writing, judge-witness}
 use Rattle.meaning.proofs.Check.{checked-if-well-formed, well-formed-if-checked}
 use Rattle.meaning.proofs.Calls.{write-cnf-is, refutation-by-clauses}
-use Rattle.pairing.specs.Bounds.{at-bound}
+use Rattle.pairing.specs.Excluded.{Excluded}
 use Rattle.pairing.proofs.Witnesses.{accepted-is-witness}
 use Rattle.pairing.proofs.Judged.{judged-is-witness}
 use Rattle.pairing.proofs.Endless.{lasso-true, prefix-true}
@@ -124,7 +124,7 @@ module _ (version : ℕ) (ws bs : List ℕ) {r : WitnessAnswer} (answered : witn
 pub accepted-refutation : {version : ℕ} {ws : List ℕ} {refutation room : List ℤ} {numbers clauses : List ℕ}
     {r : Refuted} {room′ : List ℤ} {numbers′ clauses′ : List ℕ}
     → JudgedAs version ws refutation room numbers clauses r room′ numbers′ clauses′ → r ≡ Yes
-    → WellFormed version ws × ((j : ℕ) → j ≤ problem version ws .bound → (bs : List ℕ) → Witness (at-bound (problem version ws) j) bs → ⊥)
+    → WellFormed version ws × Excluded (problem version ws)
 accepted-refutation {version} {ws} {refutation} {room} {numbers} {clauses} a e =
     let yes = sym (a .answered ∙ refutation-by-clauses version ws refutation (length room) (length numbers) (length clauses)) ∙ ap refuted-answer e in
     (well-formed-if-checked version ws _ (number-of yes), a .excludes e)

@@ -1,11 +1,12 @@
--- The page to trust: the three demands as theorems of the calls of document 01 and of Q-3 and Q-5 of document 02, with the rule of its Q-4, each stated in full and proved by the theorem that it names.
+-- The page to trust: the three demands as theorems of the calls of document 01 and of Q-3 and Q-5 of document 02, with the rule of its Q-4 and the
+-- constraints of its Q-6, each stated in full and proved by the theorem that it names.
 -- That a call keeps the promise that a theorem asks for is its `ensures`, in crates/*/src; what is to be believed besides is the definitions that
 -- the statements name (docs/PROMISES.md lists both). Assumes nothing.
-use mathlib.Core.{Path._≡_, List.List, List.[], List._++_, List.map, List.List·Memᴰ, Option.some, Logic._↔_, Logic._⊎_}
+use mathlib.Core.{Path._≡_, List.List, List.[], List._∷_, List._++_, List.map, List.List·Memᴰ, Option.some, Logic._↔_, Logic._⊎_}
 use mathlib.Core.Bool.{Bool, true, false, _&&_, _||_}
-use Prim.Native.Nat.{ℕ, suc, _+_, _-_, _^_, _≤_, _<_}
+use Prim.Native.Nat.{ℕ, suc, _+_, _*_, _-_, _^_, _≤_, _<_}
 use lib.{IntN.ℤ, IntN.pos, ListN.length, ListN.getD, ListN.take}
-use Rattle.clauses.specs.{Lists.written, Lists.each, Lists.empty, Limits.variables-limit, Answers.granted, Answers.first-failing}
+use Rattle.clauses.specs.{Lists.written, Lists.each, Lists.empty, Lists.joined, Limits.variables-limit, Answers.Answer, Answers.granted, Answers.first-failing, Answers.first-failing-part}
 use Rattle.clauses.specs.Clauses.{Clause, Assignment, negated, size, clause-true, Satisfies, Within}
 use Rattle.clauses.specs.CnfWords.{clauses-of, cnf-checks}
 use Rattle.clauses.specs.Refutations.{Step, steps-of, refutation-checks, Lookup, SatisfiesNamed, both-signs, hints-conflict, step-accepted, judge-steps, numbers-area, clauses-area}
@@ -16,18 +17,19 @@ use Rattle.refutation.specs.Promise.{Judged}
 use Rattle.meaning.specs.Limits.{search-limit}
 use Rattle.meaning.specs.Problem as problems
 use Rattle.meaning.specs.Problem.{Problem, problem, node}
-use Rattle.meaning.specs.Runs.{Position, StartsRight, EndlessRun}
+use Rattle.meaning.specs.Runs.{Position, StartsRight, meets-constraints, EndlessRun}
 use Rattle.meaning.specs.Formulas.{Formula, atom, until, release, formula, Holds}
 use Rattle.meaning.specs.Bounded.{prefix, lasso, prefix-value}
 use Rattle.meaning.specs.Witnesses as witnesses
-use Rattle.meaning.specs.Witnesses.{witness-length, open-bytes, at-or-before, byte, shape, first-latches, inputs-at, Closes, lasso-path, Witness}
+use Rattle.meaning.specs.Witnesses.{witness-length, open-bytes, at-or-before, byte, shape, first-latches, inputs-at, position, Closes, lasso-path, Witness}
 use Rattle.meaning.specs.Cnf.{cnf, cnf-words, variables}
-use Rattle.meaning.specs.Calls.{WellFormed, judge-bytes, judge-witness, judge-refutation}
+use Rattle.meaning.specs.Calls.{check-parts, WellFormed, judge-bytes, judge-witness, judge-refutation}
+use Rattle.meaning.specs.VersionOne.{check-before, items-before, witness-parts-before}
 use Rattle.meaning.specs.JobFile.{job-version, job-words, job-problem, job-answer, header-line, clause-line, printed}
-use Rattle.meaning.specs.Cases.{Case, thirteen-cases, AtAllLimits, limit-words}
+use Rattle.meaning.specs.Cases.{Case, thirteen-cases, stuck, AtAllLimits, limit-words}
 use Rattle.meaning.proofs.Check.{proper-if-well-formed}
 use Rattle.pairing.specs.{Bounds.at-bound, Bounds.Counted, Pairs.Model, Pairs.PairsOff, Pairs.WitnessAtOrBelow}
-use Rattle.pairing.specs.{WithoutLoop.StrictWitness, Refutable.AcceptedRefutation}
+use Rattle.pairing.specs.{WithoutLoop.StrictWitness, Excluded.Excluded, Refutable.AcceptedRefutation}
 use Rattle.counts.specs.{declared.Counts.Counts, Promise.counts-of}
 use Rattle.problem.specs.declared.{ProblemRecord.ProblemRecord, Checked.Checked, Checked.the-variants.Good}
 use Rattle.problem.specs.Promise.{CheckedAs}
@@ -144,15 +146,15 @@ header-by-record = Rattle.checker.proofs.ByRecord.header-by-record
 pub cnf-read-back : (version : ℕ) (ws : List ℕ) → WellFormed version ws → clauses-of (cnf-words (problem version ws)) ≡ cnf (problem version ws)
 cnf-read-back version ws formed = Rattle.meaning.proofs.ReadBack.cnf-read-back (problem version ws) (proper-if-well-formed version ws formed)
 
--- "At all limits, with every reset fixed and 63 U or R nodes over one atom, the CNF has 437,012 words": each such problem's. There is one, and no CNF
--- has more.
-pub at-all-limits : (p : Problem) → AtAllLimits p → length (cnf-words p) ≡ 437_012
+-- "At all limits, with every reset fixed and 63 U or R nodes over one atom, the CNF has 437,012 words": each such problem's, and 64 more for each
+-- constraint. There is one without constraints, and no CNF of as many constraints has more.
+pub at-all-limits : (p : Problem) → AtAllLimits p → length (cnf-words p) ≡ 437_012 + 64 * length (p .constraints)
 at-all-limits = Rattle.meaning.proofs.AllLimits.at-all-limits
 
 pub limits-reached : WellFormed 1 limit-words × AtAllLimits (problem 1 limit-words)
 limits-reached = (Rattle.meaning.proofs.AllLimits.limits-formed, Rattle.meaning.proofs.AllLimits.limits-reached)
 
-pub largest-cnf : (version : ℕ) (ws : List ℕ) → WellFormed version ws → length (cnf-words (problem version ws)) ≤ 437_012
+pub largest-cnf : (version : ℕ) (ws : List ℕ) → WellFormed version ws → length (cnf-words (problem version ws)) ≤ 437_012 + 64 * length (problem version ws .constraints)
 largest-cnf = Rattle.meaning.proofs.AllLimits.largest-cnf
 
 -- "A run is accepted exactly if it is a witness by the bounded meaning of LTL": of the bytes, of words and bytes, and of the call.
@@ -166,7 +168,8 @@ pub accepted-run : (version : ℕ) (ws bs : List ℕ) {r : WitnessAnswer} → an
     → (r ≡ witness-judge.Yes) ↔ (WellFormed version ws × Witness (problem version ws) bs)
 accepted-run = Rattle.checker.proofs.CallsMean.accepted-run
 
--- "An accepted lasso makes the formula true on its endless path", which is a run of the circuit; of the call too; and conversely.
+-- "An accepted lasso makes the formula true on its endless path", which is a run of the circuit that meets the constraints at every position; of the
+-- call too; and conversely.
 pub lasso-true : (p : Problem) (bs : List ℕ) (l : ℕ) → judge-bytes p bs ≡ granted 0 → shape bs ≡ lasso l
     → EndlessRun p (lasso-path p bs l) × Holds p (formula p) (lasso-path p bs l) 0
 lasso-true = Rattle.pairing.proofs.Endless.lasso-true
@@ -178,6 +181,7 @@ accepted-lasso = Rattle.checker.proofs.CallsMean.accepted-lasso
 
 pub lasso-accepted : (p : Problem) (bs : List ℕ) (l : ℕ) → length bs ≡ witness-length p → byte bs 0 ≤ p .bound + 1
     → ((i : ℕ) → 1 ≤ i → i < length bs → byte bs i ≤ 1) → StartsRight p (first-latches p bs)
+    → ((t : ℕ) → t ≤ p .bound → meets-constraints p (position p bs t) ≡ true)
     → shape bs ≡ lasso l → Closes p bs l → Holds p (formula p) (lasso-path p bs l) 0 → judge-bytes p bs ≡ granted 0
 lasso-accepted = Rattle.pairing.proofs.Endless.lasso-accepted
 
@@ -232,10 +236,19 @@ thirteen = Rattle.pairing.proofs.Thirteen.thirteen
 
 -- ════════ Demand 3 ════════
 
--- "The CNF can be satisfied exactly if a witness exists at a bound from 0 to k."
-pub satisfiable-at-or-below : (version : ℕ) (ws : List ℕ) → WellFormed version ws
+-- "The CNF can be satisfied exactly if a witness exists at a bound from 0 to k": where there are no constraints, as in every problem of version 1.
+pub satisfiable-at-or-below : (version : ℕ) (ws : List ℕ) → WellFormed version ws → length (problem version ws .constraints) ≡ 0
     → ((a : Assignment) × Model (problem version ws) a) ↔ WitnessAtOrBelow (problem version ws)
 satisfiable-at-or-below version ws formed = Rattle.pairing.proofs.AtOrBelow.satisfiable-at-or-below (problem version ws) (proper-if-well-formed version ws formed)
+
+-- Document 02, Q-6: "Prefixes can now get stuck, so where D is not 0, the CNF of k is satisfied exactly by witnesses at k": for any D.
+pub satisfiable-at-bound : (version : ℕ) (ws : List ℕ) → WellFormed version ws
+    → ((a : Assignment) × Model (problem version ws) a) ↔ ((bs : List ℕ) × Witness (problem version ws) bs)
+satisfiable-at-bound version ws formed = Rattle.pairing.proofs.AtOrBelow.satisfiable-at-bound (problem version ws) (proper-if-well-formed version ws formed)
+
+-- Why not more: a problem with one constraint, whose CNF cannot be satisfied at bound 1, although a prefix is its witness at bound 0.
+pub stuck-prefix : WellFormed 2 (stuck 1) × Witness (at-bound (problem 2 (stuck 1)) 0) (0 ∷ 0 ∷ []) × (((a : Assignment) × Model (problem 2 (stuck 1)) a) → ⊥)
+stuck-prefix = (Rattle.pairing.proofs.Stuck.stuck-formed, Rattle.pairing.proofs.Stuck.stuck-prefix, Rattle.pairing.proofs.Stuck.stuck-unsatisfiable)
 
 -- "Witnesses at k and satisfying assignments pair off one to one."
 pub pairs-off : (version : ℕ) (ws : List ℕ) → WellFormed version ws → PairsOff (problem version ws)
@@ -267,22 +280,23 @@ pub judged-refuted : {v : ℕ} {cnf refutation : List ℤ} {numbers clauses : Li
     → Judged v cnf refutation numbers clauses r numbers′ clauses′ → r ≡ cnf-judge.Yes → (a : Assignment) → Satisfies a (clauses-of cnf) → ⊥
 judged-refuted = Rattle.refutation.proofs.Refuted.judged-refuted
 
--- "Of a problem's CNF it excludes every witness at every bound 0 to k"; and of the call.
+-- Of a problem's CNF "a refutation excludes lassos at all bounds to k but prefixes at k only", and where there are no constraints "every witness at every
+-- bound 0 to k": the fields of `Excluded`; and of the call.
 pub problem-refuted : (version : ℕ) (ws : List ℕ) (refutation : List ℤ) (room m n : ℕ) → judge-refutation version ws refutation room m n ≡ granted 0
-    → (j : ℕ) → j ≤ problem version ws .bound → (bs : List ℕ) → Witness (at-bound (problem version ws) j) bs → ⊥
+    → Excluded (problem version ws)
 problem-refuted = Rattle.pairing.proofs.AtOrBelow.problem-refuted
 
 pub accepted-refutation : {version : ℕ} {ws : List ℕ} {refutation room : List ℤ} {numbers clauses : List ℕ}
     {r : Refuted} {room′ : List ℤ} {numbers′ clauses′ : List ℕ}
     → JudgedAs version ws refutation room numbers clauses r room′ numbers′ clauses′ → r ≡ problem-judge.Yes
-    → WellFormed version ws × ((j : ℕ) → j ≤ problem version ws .bound → (bs : List ℕ) → Witness (at-bound (problem version ws) j) bs → ⊥)
+    → WellFormed version ws × Excluded (problem version ws)
 accepted-refutation = Rattle.checker.proofs.CallsMean.accepted-refutation
 
--- "If there is none, some list of steps that the rule accepts exists": for any CNF, and for a problem's.
+-- "If there is none, some list of steps that the rule accepts exists": for any CNF, and for a problem's, if there is no witness at k.
 pub refutable : (v : ℕ) (cs : List Clause) → Within v cs → ((a : Assignment) → length a ≡ v → Satisfies a cs → ⊥) → Refutation v cs
 refutable = Rattle.clauses.proofs.Complete.refutable
 
-pub problem-refutable : (version : ℕ) (ws : List ℕ) → WellFormed version ws → (WitnessAtOrBelow (problem version ws) → ⊥)
+pub problem-refutable : (version : ℕ) (ws : List ℕ) → WellFormed version ws → ((bs : List ℕ) → Witness (problem version ws) bs → ⊥)
     → Refutation (variables (problem version ws)) (cnf (problem version ws))
 problem-refutable version ws formed = Rattle.pairing.proofs.AtOrBelow.problem-refutable (problem version ws) (proper-if-well-formed version ws formed)
 
@@ -296,7 +310,7 @@ pub refutable-judged : (v : ℕ) (cnf : List ℤ) → first-failing (cnf-checks 
 refutable-judged = Rattle.refutation.proofs.Refutable.refutable-judged
 
 -- and the judge of a problem's refutation.
-pub refutable-call : (version : ℕ) (ws : List ℕ) → WellFormed version ws → (WitnessAtOrBelow (problem version ws) → ⊥)
+pub refutable-call : (version : ℕ) (ws : List ℕ) → WellFormed version ws → ((bs : List ℕ) → Witness (problem version ws) bs → ⊥)
     → (a : AcceptedRefutation version ws)
     × ((room : List ℤ) (numbers clauses : List ℕ) (r : Refuted) (room′ : List ℤ) (numbers′ clauses′ : List ℕ)
     → length (cnf-words (problem version ws)) ≤ length room → numbers-area (variables (problem version ws)) ≤ length numbers
@@ -337,9 +351,9 @@ module _ (version : ℕ) (ws room : List ℕ) {r : Finding} {after : List ℕ} (
       → (r ≡ finder.NoneExists) ↔ (((a : Assignment) × Model (problem version ws) a) → ⊥)
   none-unsatisfiable = Rattle.finder.proofs.Means.none-unsatisfiable version ws room call
 
-  -- So none at any bound from 0 to k.
+  -- So it excludes what a refutation does.
   pub none-excludes : r ≡ finder.NoneExists → WellFormed version ws × Searched (problem version ws) (length room)
-      × ((j : ℕ) → j ≤ problem version ws .bound → (bs : List ℕ) → Witness (at-bound (problem version ws) j) bs → ⊥)
+      × Excluded (problem version ws)
   none-excludes = Rattle.finder.proofs.Means.none-excludes version ws room call
 
   -- "otherwise, after 1 to 5, refusal 17, place that sum"; "room too small is refusal 18, place the bytes needed, after 17".
@@ -394,3 +408,29 @@ module _ (text ws : List ℕ) (p : ℕ) (left : List ℕ) (e : circuit-read text
   pub call-unread : (rest room after : List ℕ) (r : Outcome) → length text ≤ longest-text → length (take p text ++ rest) ≤ longest-text
       → texts.ReadAs text room r after → texts.ReadAs (take p text ++ rest) room r after
   call-unread = Rattle.aiger.proofs.RoundTrips.call-unread text ws p left e
+
+-- ════════ Document 02, Q-6: version 1 ════════
+
+-- "Version 1 files mean D = 0 and keep every answer": the check, whatever comes after it, the CNF and the judge of a witness are those of document 01; all
+-- calls are made of these. And demand 3 says what it said.
+pub none-in-version-1 : (ws : List ℕ) → problem 1 ws .constraints ≡ []
+none-in-version-1 = Rattle.meaning.proofs.ShownBy.none-in-version-1
+
+pub check-in-version-1 : (ws : List ℕ) (after : Answer) → first-failing-part (check-parts 1 ws) after ≡ first-failing-part (check-before ws) after
+check-in-version-1 = Rattle.meaning.proofs.VersionOne.check-in-version-1
+
+pub cnf-in-version-1 : (ws : List ℕ) → cnf (problem 1 ws) ≡ joined (items-before (problem 1 ws))
+cnf-in-version-1 = Rattle.meaning.proofs.VersionOne.cnf-in-version-1
+
+pub judged-in-version-1 : (ws bs : List ℕ) → judge-bytes (problem 1 ws) bs ≡ first-failing-part (witness-parts-before (problem 1 ws) bs) (granted 0)
+judged-in-version-1 = Rattle.meaning.proofs.VersionOne.judged-in-version-1
+
+pub judge-in-version-1 : (ws bs : List ℕ) → judge-witness 1 ws bs ≡ first-failing-part (check-before ws ++ witness-parts-before (problem 1 ws) bs) (granted 0)
+judge-in-version-1 = Rattle.meaning.proofs.VersionOne.judge-in-version-1
+
+pub satisfiable-in-version-1 : (ws : List ℕ) → WellFormed 1 ws → ((a : Assignment) × Model (problem 1 ws) a) ↔ WitnessAtOrBelow (problem 1 ws)
+satisfiable-in-version-1 = Rattle.pairing.proofs.AtOrBelow.satisfiable-in-version-1
+
+pub refuted-in-version-1 : (ws : List ℕ) (refutation : List ℤ) (room m n : ℕ) → judge-refutation 1 ws refutation room m n ≡ granted 0
+    → (j : ℕ) → j ≤ problem 1 ws .bound → (bs : List ℕ) → Witness (at-bound (problem 1 ws) j) bs → ⊥
+refuted-in-version-1 = Rattle.pairing.proofs.AtOrBelow.refuted-in-version-1

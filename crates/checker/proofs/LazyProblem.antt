@@ -10,7 +10,7 @@ use Rattle.clauses.specs.Answers.{Answer}
 use Rattle.clauses.specs.Cases.{T-cnf, T-steps, T-other-steps}
 use Rattle.clauses.specs.Clauses.{variable-of}
 use Rattle.clauses.specs.Refutations.{refutation-checks, area-checks, step-accepted, area-after}
-use Rattle.meaning.specs.Limits.{inputs-limit, latches-limit, gates-limit, nodes-limit, bound-limit}
+use Rattle.meaning.specs.Limits.{inputs-limit, latches-limit, gates-limit, nodes-limit, bound-limit, constraints-limit}
 use Rattle.meaning.specs.Problem.{header-words, problem-by, problem}
 use Rattle.meaning.specs.Cnf.{cnf, cnf-words, variables}
 use Rattle.meaning.specs.Cases.{T-words}
@@ -96,7 +96,7 @@ T-longer = over T-longer-words T-steps 75 11 24
 
 -- The answer that documents 01 and 02 lay down.
 unfoldable laid-down : Input → Answer
-unfolding header-words problem-by problem cnf cnf-words variables inputs-limit latches-limit gates-limit nodes-limit bound-limit judge-refutation refutation-checks area-checks step-accepted
+unfolding header-words problem-by problem cnf cnf-words variables inputs-limit latches-limit gates-limit nodes-limit bound-limit constraints-limit judge-refutation refutation-checks area-checks step-accepted
 laid-down x = judge-refutation (x .version) (x .words) (x .refutation) (length (x .room)) (length (x .numbers)) (length (x .clauses))
 
 module _ (x : Input) (r : Refuted) (e : refuted-answer r ≡ laid-down x) where

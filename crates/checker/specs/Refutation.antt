@@ -12,10 +12,9 @@ use Rattle.meaning.specs.Answers.{room-too-small}
 use Rattle.meaning.specs.Problem as problems
 use Rattle.meaning.specs.Problem.{problem}
 use Rattle.meaning.specs.Proper.{Proper}
-use Rattle.meaning.specs.Witnesses.{Witness}
 use Rattle.meaning.specs.Cnf.{cnf, cnf-words, variables}
 use Rattle.meaning.specs.Calls.{judge-refutation, room-after-judging, numbers-area-after, clauses-area-after}
-use Rattle.pairing.specs.Bounds.{at-bound}
+use Rattle.pairing.specs.Excluded.{Excluded}
 use Rattle.counts.specs.declared.Counts.{Counts}
 use Rattle.counts.specs.Promise.{counts-of}
 use Rattle.problem.specs.Promise.{refusal-answer}
@@ -32,13 +31,14 @@ refuted-answer (AreaTooSmall n) = area-too-small n
 refuted-answer (StepRefused i) = step-refused i
 refuted-answer (NotClosed n) = not-closed n
 
--- The judge: its answer, every lent buffer after it, and what a yes says: no witness at any bound from 0 to k.
+-- The judge: its answer, every lent buffer after it, and what a yes says: no lasso at any bound from 0 to k, no prefix at k, and where there are no
+-- constraints no witness at any bound from 0 to k.
 pub record JudgedAs (version : ℕ) (ws : List ℕ) (refutation room : List ℤ) (numbers clauses : List ℕ) (r : Refuted) (room′ : List ℤ) (numbers′ clauses′ : List ℕ) : Type 0 where
   pub answered : refuted-answer r ≡ judge-refutation version ws refutation (length room) (length numbers) (length clauses)
   pub room-left : room′ ≡ room-after-judging (refuted-answer r) version ws room
   pub numbers-left : numbers′ ≡ numbers-area-after (refuted-answer r) version ws numbers
   pub clauses-left : clauses′ ≡ clauses-area-after (refuted-answer r) version ws refutation clauses
-  pub excludes : r ≡ Yes → (j : ℕ) → j ≤ problem version ws .bound → (bs : List ℕ) → Witness (at-bound (problem version ws) j) bs → ⊥
+  pub excludes : r ≡ Yes → Excluded (problem version ws)
 
 -- ════════ Inside the judge ════════
 

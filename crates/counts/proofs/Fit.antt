@@ -21,6 +21,7 @@ pub record Few (t : Tally) : Type 0 where
   pub latches-few : t .latches < too-many
   pub fixed-few : t .fixed < too-many
   pub gates-few : t .gates < too-many
+  pub constraints-few : t .constraints < too-many
   pub equals-few : t .equals < too-many
   pub ors-few : t .ors < too-many
   pub untils-few : t .untils < too-many
@@ -34,9 +35,11 @@ few-told t e =
     let small : ℕ → Bool = λ n. ltb n too-many in
     let positions : Bool = ltb 0 (t .positions) && small (t .positions) in
     let gates : Bool = positions && small (t .width) && small (t .latches) && small (t .fixed) && small (t .gates) in
-    let to-ors = last-told (gates && small (t .equals) && small (t .ors)) (t .untils) e in
-    let to-equals = last-told (gates && small (t .equals)) (t .ors) (to-ors .0) in
-    let to-gates = last-told gates (t .equals) (to-equals .0) in
+    let constraints : Bool = gates && small (t .constraints) in
+    let to-ors = last-told (constraints && small (t .equals) && small (t .ors)) (t .untils) e in
+    let to-equals = last-told (constraints && small (t .equals)) (t .ors) (to-ors .0) in
+    let to-constraints = last-told constraints (t .equals) (to-equals .0) in
+    let to-gates = last-told gates (t .constraints) (to-constraints .0) in
     let to-fixed = last-told (positions && small (t .width) && small (t .latches) && small (t .fixed)) (t .gates) (to-gates .0) in
     let to-latches = last-told (positions && small (t .width) && small (t .latches)) (t .fixed) (to-fixed .0) in
     let to-width = last-told (positions && small (t .width)) (t .latches) (to-latches .0) in
@@ -49,7 +52,8 @@ few-told t e =
       latches-few = to-width .1;
       fixed-few = to-latches .1;
       gates-few = to-fixed .1;
-      equals-few = to-gates .1;
+      constraints-few = to-gates .1;
+      equals-few = to-constraints .1;
       ors-few = to-equals .1;
       untils-few = to-ors .1;
     }
@@ -84,6 +88,8 @@ pub record SmallProducts (t : Tally) (w : Weights) : Type 0 where
   pub nodes-small : node-count t < 2 ^ 40
   pub gate-small : t .gates * or w < 2 ^ 40
   pub gates-small : t .positions * (t .gates * or w) < 2 ^ 40
+  pub constraint-small : t .constraints * w .one < 2 ^ 40
+  pub constraints-small : t .positions * (t .constraints * w .one) < 2 ^ 40
   pub resets-small : t .fixed * w .one < 2 ^ 40
   pub step-small : t .latches * equal w < 2 ^ 40
   pub steps-small : (t .positions - 1) * (t .latches * equal w) < 2 ^ 40
@@ -117,6 +123,7 @@ module _ {t : Tally} {w : Weights} (fits : Few t) (light : Light w) where
       let positions : t .positions ≤ too-many = omega (arith, fits .positions-few) in
       let before-last : t .positions - 1 ≤ too-many = omega (arith, fits .positions-few) in
       let gates : t .gates ≤ too-many = omega (arith, fits .gates-few) in
+      let constraints : t .constraints ≤ too-many = omega (arith, fits .constraints-few) in
       let latches : t .latches ≤ too-many = omega (arith, fits .latches-few) in
       let fixed : t .fixed ≤ too-many = omega (arith, fits .fixed-few) in
       let nodes : node-count t ≤ 3 * too-many = omega (arith, fits .equals-few, fits .ors-few, fits .untils-few) in
@@ -124,6 +131,7 @@ module _ {t : Tally} {w : Weights} (fits : Few t) (light : Light w) where
       let equal-light : equal w ≤ 8 = omega (arith, light) in
       let selected-light : selected w ≤ 8 = omega (arith, light) in
       let gate : t .gates * or w ≤ too-many * 12 = mul-le-mul gates or-light in
+      let constraint : t .constraints * w .one ≤ too-many * 4 = mul-le-mul constraints (light .one-light) in
       let step : t .latches * equal w ≤ too-many * 8 = mul-le-mul latches equal-light in
       let closed : t .latches * selected w ≤ too-many * 8 = mul-le-mul latches selected-light in
       let paired : t .positions * (t .positions - 1) ≤ too-many * too-many = mul-le-mul positions before-last in
@@ -136,6 +144,8 @@ module _ {t : Tally} {w : Weights} (fits : Few t) (light : Light w) where
         nodes-small = omega (arith, nodes);
         gate-small = omega (arith, gate);
         gates-small = omega (arith, mul-le-mul positions gate);
+        constraint-small = omega (arith, constraint);
+        constraints-small = omega (arith, mul-le-mul positions constraint);
         resets-small = omega (arith, mul-le-mul fixed (light .one-light));
         step-small = omega (arith, step);
         steps-small = omega (arith, mul-le-mul before-last step);

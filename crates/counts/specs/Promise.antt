@@ -24,6 +24,7 @@ tally-of t = record {
   latches = t .latches;
   fixed = t .fixed;
   gates = t .gates;
+  constraints = t .constraints;
   equals = t .equals;
   ors = t .ors;
   untils = t .untils;
@@ -41,6 +42,7 @@ few t =
     && ltb (t .latches) too-many
     && ltb (t .fixed) too-many
     && ltb (t .gates) too-many
+    && ltb (t .constraints) too-many
     && ltb (t .equals) too-many
     && ltb (t .ors) too-many
     && ltb (t .untils) too-many

@@ -15,6 +15,7 @@ pub struct Tally {
     pub latches: usize,
     pub fixed: usize,
     pub gates: usize,
+    pub constraints: usize,
     pub equals: usize,
     pub ors: usize,
     pub untils: usize,

@@ -29,7 +29,8 @@ fn is_few(t: Tally) -> bool
         & (t.width < TOO_MANY)
         & (t.latches < TOO_MANY)
         & (t.fixed < TOO_MANY)
-        & (t.gates < TOO_MANY);
+        & (t.gates < TOO_MANY)
+        & (t.constraints < TOO_MANY);
     sizes & (t.equals < TOO_MANY) & (t.ors < TOO_MANY) & (t.untils < TOO_MANY)
 }
 
@@ -51,7 +52,7 @@ fn variables_in(t: Tally) -> usize
     1 + circuit + nodes
 }
 
-// Items 1 to 8 in order; item 7 is P and Q at each position, and then E.
+// Items 1 to 8 in order, the constraints after item 2; item 7 is P and Q at each position, and then E.
 fn total_in(t: Tally, w: Weights) -> usize
     requires { ⌜ (few (tally-of t) ≡ true) × Light w ⌝ }
     ensures { λ r. ⌜ ((weight : ℕ → ℕ) → Weighs weight (t .positions) w → r ≡ sum (item-totals weight (tally-of t))) ⌝ }
@@ -61,6 +62,7 @@ fn total_in(t: Tally, w: Weights) -> usize
         latches,
         fixed,
         gates,
+        constraints,
         equals,
         ors,
         untils,
@@ -77,6 +79,7 @@ fn total_in(t: Tally, w: Weights) -> usize
     let until = two + 3 * three;
     let selected = 2 * three;
     let gates_item = positions * (gates * or);
+    let constraints_item = positions * (constraints * one);
     let resets_item = fixed * one;
     let steps_item = (positions - 1) * (latches * equal);
     let closing_item = positions * (latches * selected);
@@ -84,7 +87,8 @@ fn total_in(t: Tally, w: Weights) -> usize
     let values = equals * (equal + equal) + ors * (or + equal) + untils * (until + until);
     let ends = positions * selected + long;
     let nodes_item = positions * values + (equals + ors + untils) * ends;
-    one + gates_item + resets_item + steps_item + closing_item + selectors_item + nodes_item + one
+    let circuit = one + gates_item + constraints_item + resets_item + steps_item;
+    circuit + closing_item + selectors_item + nodes_item + one
 }
 
 // Each clause is one.

@@ -11,7 +11,7 @@ use Rattle.clauses.specs.Lists.{written}
 use Rattle.clauses.specs.Cases.{T-cnf}
 use Rattle.clauses.specs.Clauses.{negated}
 use Rattle.clauses.specs.Answers.{Answer}
-use Rattle.meaning.specs.Limits.{inputs-limit, latches-limit, gates-limit, nodes-limit, bound-limit}
+use Rattle.meaning.specs.Limits.{inputs-limit, latches-limit, gates-limit, nodes-limit, bound-limit, constraints-limit}
 use Rattle.meaning.specs.Problem.{header-words, problem-by, problem}
 use Rattle.meaning.specs.Cnf.{true-literal, false-literal, variables, cnf, cnf-words}
 use Rattle.meaning.specs.Calls.{write-cnf, room-after-writing}
@@ -113,11 +113,11 @@ G-ended-with y =
 -- ════════ What the promise gives ════════
 
 -- The answer that document 01 lays down.
-unfoldable laid-down : Input → Answer
-unfolding header-words problem-by problem cnf cnf-words inputs-limit latches-limit gates-limit nodes-limit bound-limit write-cnf
+unfoldable pub laid-down : Input → Answer
+unfolding header-words problem-by problem cnf cnf-words inputs-limit latches-limit gates-limit nodes-limit bound-limit constraints-limit write-cnf
 laid-down x = write-cnf (x .version) (x .words) (length (x .room))
 
-meets : (x : Input) (r : Encoded) → answer-of r ≡ laid-down x → NumberedBy (problem (x .version) (x .words)) r
+pub meets : (x : Input) (r : Encoded) → answer-of r ≡ laid-down x → NumberedBy (problem (x .version) (x .words)) r
     → Meets x r (room-after-writing (answer-of r) (x .version) (x .words) (x .room))
 unfolding laid-down
 meets x r e n = record { answered = e; room-after = refl; numbered = n }

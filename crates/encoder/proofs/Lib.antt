@@ -13,3 +13,5 @@ pub mod PreparedUnique
 pub mod Unique
 pub mod Lazy
 pub mod LazyLimits
+pub mod WrongConstraints
+pub mod LazyConstraints

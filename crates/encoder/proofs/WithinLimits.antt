@@ -5,7 +5,7 @@ use mathlib.Core.List.{List, []}
 use Prim.Native.Nat.{ℕ, _+_, _*_, _^_, _<_, _≤_}
 use native.Mathlib.Omega.{arith}
 use Rattle.meaning.specs.Limits.{inputs-limit, latches-limit, gates-limit, nodes-limit}
-use Rattle.meaning.specs.Problem.{Problem, Node, Left, constant, child, latch, gate, node}
+use Rattle.meaning.specs.Problem.{Problem, Node, Left, constant, child, latch, gate, constraint, node}
 use Rattle.meaning.specs.Proper.{LeftProper}
 use Rattle.problem.specs.declared.Outline.{Outline}
 use Rattle.problem.specs.Promise.{problem-in, ProperIn}
@@ -14,7 +14,7 @@ use Rattle.encoder.specs.Numbering.{Sized, Small, NodeOf}
 
 -- A problem of the outline's width and bound that is all inputs.
 abbrev pub only-inputs : Outline → Problem
-only-inputs s = record { inputs = s .width; latches = []; gates = []; nodes = []; bound = s .bound }
+only-inputs s = record { inputs = s .width; latches = []; gates = []; constraints = []; nodes = []; bound = s .bound }
 
 pub only-inputs-sized : (s : Outline) → Sized s (only-inputs s)
 only-inputs-sized s = record { width-is = omega arith; bound-is = refl }
@@ -55,6 +55,9 @@ module _ {s : Outline} {ws : List ℕ} (good : ProperIn s ws) where
         let gates = shows s ws .gates-are in
         let width = good .width-is in
         omega (arith, good .proper .right-below j (rw gates l))
+
+  pub constraint-within : {c : ℕ} → c < s .constraints → constraint (problem-in s ws) c ≤ 2 * s .width + 1
+  constraint-within {c} l = rw (good .width-is) at (good .proper .constraints-in-range c (rw (shows s ws .constraints-are) l))
 
   pub node-proper : {n : ℕ} {x : Node} → n < s .nodes → x ≡ node (problem-in s ws) n → NodeOf s x
   node-proper {n} l e = record {

@@ -7,7 +7,7 @@ use lib.ListN.{length}
 use Rattle.clauses.specs.Lists.{numbers, each}
 use Rattle.clauses.specs.Clauses.{Clause, negated}
 use Rattle.meaning.specs.Problem.{Problem, Node, latch, atom, both, either, next, until, release}
-use Rattle.meaning.specs.Cnf.{equal-form, or-form, and-form, until-form, release-form, positions, selector, literal-at, left-at, latch-at, next-at, latch-numbers, gate-clauses, reset-unit, closing-clauses, P, P-clauses, Q-clauses, E-clauses}
+use Rattle.meaning.specs.Cnf.{equal-form, or-form, and-form, until-form, release-form, positions, selector, literal-at, left-at, latch-at, next-at, latch-numbers, gate-clauses, constraint-unit, reset-unit, closing-clauses, P, P-clauses, Q-clauses, E-clauses}
 use Rattle.problem.specs.declared.Outline.{Outline}
 use Rattle.encoder.specs.declared.forms.OpForm.{OpForm}
 use Rattle.encoder.specs.declared.forms.OpForm.the-variants.{Equal, And, Or, Until, Release}
@@ -17,9 +17,12 @@ use Rattle.encoder.specs.Numbering.{Sized, Negatable}
 abbrev pub excluded-pair : ℤ → ℤ → List Clause
 excluded-pair s m = (negated s ∷ negated m ∷ []) ∷ []
 
--- Items 2, 4 and 5 at one position.
+-- Items 2, 4 and 5, and the constraints, at one position.
 abbrev pub gates-at : Problem → ℕ → List Clause
 gates-at p t = each (numbers 0 (length (p .gates))) (gate-clauses p t)
+
+abbrev pub constraints-at : Problem → ℕ → List Clause
+constraints-at p t = each (numbers 0 (length (p .constraints))) (constraint-unit p t)
 
 abbrev pub step-clauses : Problem → ℕ → ℕ → List Clause
 step-clauses p t i = equal-form (latch-at p (t + 1) i) (next-at p t i)

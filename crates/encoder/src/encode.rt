@@ -4,6 +4,7 @@ use crate::circuit::closing;
 use crate::circuit::gates;
 use crate::circuit::resets;
 use crate::circuit::steps;
+use crate::constraints::constraints;
 use crate::nodes::formula;
 use crate::nodes::nodes;
 use crate::selectors::selectors;
@@ -18,13 +19,14 @@ ghost use Rattle.problem.specs.Promise.{problem-in, ProperIn, CountedIn};
 ghost use Rattle.encoder.specs.Promise.{EncodedAs};
 ghost use Rattle.encoder.specs.Writing.{Room, Wrote, RoomAnswered};
 
-// Items 1 to 8, each where the one before it ends; "1. (1)."
+// Items 1 to 8, the constraints after item 2, each where the one before it ends; "1. (1)."
 pub(crate) fn all_items(words: &[u32], s: Outline, room: &mut [i32]) -> usize
     requires { ⌜ ProperIn s (now words) × Room 0 (cnf (problem-in s (now words))) (now room) ⌝ }
     ensures { λ r. ⌜ Wrote 0 (words-of (cnf (problem-in s (now (words .entry))))) (now (room .entry)) (now (room .exit)) r ⌝ }
 {
     let mut next = clause1(room, 0, 1);
     next = gates(words, s, room, next);
+    next = constraints(words, s, room, next);
     next = resets(words, s, room, next);
     next = steps(words, s, room, next);
     next = closing(words, s, room, next);

@@ -1,6 +1,7 @@
 // Writes the CNF of a problem.
 pub mod answer;
 mod circuit;
+mod constraints;
 pub mod encode;
 mod forms;
 mod literals;

@@ -1,4 +1,5 @@
--- When the judge accepts a run with a first byte: where the loop closes and the formula holds, since 7 and 8 pass. Assumes nothing.
+-- When the judge accepts a run with a first byte: where it meets the constraints, the loop closes and the formula holds, since 7 and 8 pass.
+-- Assumes nothing.
 use mathlib.Core.Path.{_≡_, refl, sym, _∙_, ap, fun-ext}
 use mathlib.Core.Bool.{Bool, true, false, Bool·beq, _&&_, and-true, cond}
 use mathlib.Core.List.{List, [], _∷_, map}
@@ -10,19 +11,19 @@ use lib.ListN.{length, getD, take, length-map, List·getD-map, List·getD-append
 use lib.Seq.{getD-take}
 use Rattle.clauses.specs.Lists.{numbers, numbered, all-of}
 use Rattle.clauses.specs.Answers.{Answer, Check, check, first-failing, granted}
-use Rattle.clauses.proofs.Satisfaction.{both-true, first-true, second-true, all-of-append, all-of-map}
+use Rattle.clauses.proofs.Satisfaction.{both-true, first-true, second-true, not-both, false-if-not-true, all-of-append, all-of-map}
 use Rattle.clauses.proofs.Answers.{passing, refusing}
-use Rattle.meaning.specs.Answers.{bad-witness, against-reset}
+use Rattle.meaning.specs.Answers.{bad-witness, against-reset, constraint-broken}
 use Rattle.meaning.specs.Problem.{Problem, Latch, latch}
-use Rattle.meaning.specs.Runs.{values, next-values, meets-reset, run-from}
+use Rattle.meaning.specs.Runs.{values, next-values, meets-reset, meets-constraints, run-from}
 use Rattle.meaning.specs.Formulas.{formula}
 use Rattle.meaning.specs.Bounded.{Shape, prefix, lasso}
 use Rattle.meaning.specs.LassoValue.{bounded-value}
-use Rattle.meaning.specs.Witnesses.{witness-length, shape-of, shape, first-latches, inputs-at, run, position, rows, byte-limit, byte-checks, reset-checks, loop-checks}
+use Rattle.meaning.specs.Witnesses.{witness-length, shape-of, shape, first-latches, inputs-at, run, position, rows, byte-limit, byte-checks, reset-checks, loop-checks, position-checks}
 use Rattle.meaning.specs.Calls.{accepted}
 use Rattle.meaning.proofs.Numbers.{all-of-numbers, all-of-numbers-if}
 use Rattle.pairing.proofs.Witnesses.{all-checks, judged-by-all, all-checks-refusing}
-use Rattle.finder.specs.Runs.{resets, slots, bytes-by, run-bytes}
+use Rattle.finder.specs.Runs.{Broken, resets, slots, bytes-by, run-bytes}
 use Rattle.finder.proofs.Digits.{bytes-below-2, length-run}
 
 -- ════════ The judge's yes ════════
@@ -42,10 +43,10 @@ module _ (p : Problem) (bs : List ℕ) where
   abbrev value : Bool
   value = bounded-value (shape bs) (p .bound) (rows p bs) (formula p) 0
 
-  -- 7, 8, 9 and 10.
+  -- 7, 8, 9, 20 and 10.
   by-parts : accepted p bs
       ≡ all-of passing (byte-checks p bs)
-      && (all-of passing (reset-checks p bs) && (all-of passing (loop-checks p bs (shape bs)) && value))
+      && (all-of passing (reset-checks p bs) && (all-of passing (loop-checks p bs (shape bs)) && (all-of passing (position-checks p bs) && value)))
   by-parts =
       ap (λ (a : Answer). eqb (a .number) 0) (judged-by-all p bs)
       ∙ yes-is-passing (all-checks p bs) (all-checks-refusing p bs)
@@ -56,6 +57,12 @@ module _ (p : Problem) (bs : List ℕ) where
 
   resets-passing : all-of passing (reset-checks p bs) ≡ all-of reset-test (numbers 0 (length (p .latches)))
   resets-passing = all-of-map passing (λ i. check (reset-test i) (against-reset (1 + i))) (numbers 0 (length (p .latches)))
+
+  abbrev met-at : ℕ → Bool
+  met-at t = meets-constraints p (position p bs t)
+
+  positions-passing : all-of passing (position-checks p bs) ≡ all-of met-at (numbers 0 (p .bound + 1))
+  positions-passing = all-of-map passing (λ t. check (met-at t) (constraint-broken t)) (numbers 0 (p .bound + 1))
 
 -- A latch by its byte.
 latch-byte : (p : Problem) (b : ℕ) (xs : List ℕ) (i : ℕ) → i < length (p .latches) → getD (first-latches p (b ∷ xs)) i false ≡ eqb (getD xs i 0) 1
@@ -130,6 +137,33 @@ bytes-pass p m b h =
     both-true (eq-eqb (suc (length (run-bytes p m))) (witness-length p) (length-run p b m))
     (both-true (le-leb b (p .bound + 1) h) (later-bytes-pass p 0 (run-bytes p m) (bytes-below-2 (slots p) m)))
 
+-- ════════ 20 ════════
+
+-- Each position of an accepted run meets the constraints.
+met-if-accepted : (p : Problem) (bs : List ℕ) → accepted p bs ≡ true → (t : ℕ) → t ≤ p .bound → meets-constraints p (position p bs t) ≡ true
+met-if-accepted p bs e t h =
+    let parts = sym (by-parts p bs) ∙ e in
+    let after-7 = second-true (all-of passing (byte-checks p bs)) _ parts in
+    let after-8 = second-true (all-of passing (reset-checks p bs)) _ after-7 in
+    let after-9 = second-true (all-of passing (loop-checks p bs (shape bs))) _ after-8 in
+    let pass = first-true (all-of passing (position-checks p bs)) _ after-9 in
+    all-of-numbers (met-at p bs) (p .bound + 1) (sym (positions-passing p bs) ∙ pass) t (omega arith)
+
+module _ (p : Problem) (m : ℕ) where
+  -- So a run that breaks one is no witness, whatever its first byte.
+  pub broken-refused : Broken p m → (b : ℕ) → accepted p (b ∷ run-bytes p m) ≡ false
+  broken-refused x b =
+      false-if-not-true _
+      (λ e. not-both (met-if-accepted p (b ∷ run-bytes p m) e (x .at) (x .within))
+      (ap (meets-constraints p) (same-position p b 0 (run-bytes p m) (x .at)) ∙ x .broken))
+
+  positions-pass : ((t : ℕ) → t ≤ p .bound → meets-constraints p (position p (0 ∷ run-bytes p m) t) ≡ true) → (b : ℕ)
+      → all-of passing (position-checks p (b ∷ run-bytes p m)) ≡ true
+  positions-pass met b =
+      positions-passing p (b ∷ run-bytes p m)
+      ∙ all-of-numbers-if (met-at p (b ∷ run-bytes p m)) (p .bound + 1) (λ t h.
+      ap (meets-constraints p) (same-position p b 0 (run-bytes p m) t) ∙ met t (omega arith))
+
 -- ════════ 9 and 10 ════════
 
 -- The next values at k are the latches at l.
@@ -148,10 +182,11 @@ same-closing : (p : Problem) (b c : ℕ) (xs : List ℕ) (s : Shape) → closing
 same-closing p b c xs prefix = refl
 same-closing p b c xs (lasso l) = simp (same-position p b c xs)
 
--- Of a run with a first byte within its limit.
+-- Of a run that meets the constraints, with a first byte within its limit.
 pub accepted-is : (p : Problem) (m first : ℕ) → first ≤ p .bound + 1
+    → ((t : ℕ) → t ≤ p .bound → meets-constraints p (position p (0 ∷ run-bytes p m) t) ≡ true)
     → accepted p (first ∷ run-bytes p m)
     ≡ closing p (0 ∷ run-bytes p m) (shape-of first) && bounded-value (shape-of first) (p .bound) (rows p (0 ∷ run-bytes p m)) (formula p) 0
-accepted-is p m first h =
+accepted-is p m first h met =
     by-parts p (first ∷ run-bytes p m)
-    ∙ rw (bytes-pass p m first h, resets-pass p m first, loop-passing p (first ∷ run-bytes p m) (shape-of first), same-closing p first 0 (run-bytes p m) (shape-of first), same-rows p first 0 (run-bytes p m))
+    ∙ rw (bytes-pass p m first h, resets-pass p m first, positions-pass p m met first, loop-passing p (first ∷ run-bytes p m) (shape-of first), same-closing p first 0 (run-bytes p m) (shape-of first), same-rows p first 0 (run-bytes p m))

@@ -11,8 +11,17 @@ use borrow.Author.Tests.{ltb-false, lt-ltb}
 use lib.Dec.{ltb}
 use Rattle.meaning.specs.Problem.{Problem}
 use Rattle.meaning.specs.Calls.{accepted}
-use Rattle.finder.specs.Runs.{run-bytes}
+use Rattle.finder.specs.Runs.{Broken, run-bytes}
 use Rattle.finder.specs.Search.{Lowest, BestOf}
+use Rattle.finder.proofs.Accepted.{broken-refused}
+
+-- A run that breaks a constraint: no first byte makes it a witness.
+pub none-of-broken : {p : Problem} {m : ℕ} → Broken p m → (limit : ℕ) → Lowest p (run-bytes p m) limit limit
+none-of-broken {p} {m} broken limit = record {
+  within = omega arith;
+  none-lower = λ b l. broken-refused p m broken b;
+  is-one = λ h. absurd (omega arith);
+}
 
 -- Of no runs.
 pub best-of-none : (p : Problem) {first : ℕ} (run : ℕ) → first ≡ p .bound + 2 → BestOf p 0 (record { first = first; run = run })

@@ -1,4 +1,4 @@
--- Finders that are lazy or wrong do not meet the promise, whatever the words are; LazyAnswers and LazyRuns have inputs where it shows.
+-- Finders that are lazy or wrong do not meet the promise, whatever the words are; LazyAnswers, LazyRuns and LazyConstraints have inputs where it shows.
 -- Assumes nothing.
 use mathlib.Core.Path.{_≡_, refl, ap}
 use mathlib.Core.Bool.{Bool, true, false, cond}
@@ -15,7 +15,8 @@ use Rattle.clauses.specs.Clauses.{Assignment}
 use Rattle.clauses.proofs.Satisfaction.{those-few, not-both}
 use Rattle.meaning.specs.Limits.{search-limit}
 use Rattle.meaning.specs.Problem as problems
-use Rattle.meaning.specs.Witnesses.{witness-length, is-free, open-bytes, at-or-before, Witness}
+use Rattle.meaning.specs.Runs.{meets-constraints}
+use Rattle.meaning.specs.Witnesses.{witness-length, is-free, open-bytes, at-or-before, position, Witness}
 use Rattle.meaning.specs.Calls.{WellFormed, witnesses, room-after-finding}
 use Rattle.meaning.proofs.Check.{proper-if-well-formed}
 use Rattle.pairing.specs.Pairs.{Model}
@@ -219,6 +220,11 @@ module _ (x : Input) (after : List ℕ) where
   -- No witness stands there, as where it was not written.
   pub no-witness-written-breaks : ¬ (Witness p (take (witness-length p) after)) → (n : ℕ) → Breaks x (Found n) after
   no-witness-written-breaks h n j = h (room-at-0 j .0)
+
+  -- One stands there that breaks a constraint at a position, be it the first, the last or another.
+  pub broken-constraint-written-breaks : (t : ℕ) → t ≤ p .bound → meets-constraints p (position p (take (witness-length p) after) t) ≡ false → (n : ℕ)
+      → Breaks x (Found n) after
+  broken-constraint-written-breaks t l broken n j = not-both (room-at-0 j .0 .constraints-met t l) broken
 
   -- One stands there before which another comes: the last one, or the first by another order.
   pub later-witness-breaks : (cs : List ℕ) → Witness p cs → at-or-before (take (witness-length p) after) cs ≡ false → (n : ℕ) → Breaks x (Found n) after

@@ -9,11 +9,11 @@ use native.Mathlib.Omega.{arith}
 use lib.ListN.{length, replicate, getD}
 use Rattle.clauses.specs.Lists.{numbers, each}
 use Rattle.clauses.specs.Answers.{Answer}
-use Rattle.meaning.specs.Limits.{inputs-limit, latches-limit, gates-limit, nodes-limit, bound-limit, search-limit}
+use Rattle.meaning.specs.Limits.{inputs-limit, latches-limit, gates-limit, nodes-limit, bound-limit, constraints-limit, search-limit}
 use Rattle.meaning.specs.Problem as problems
 use Rattle.meaning.specs.Problem.{header-words, problem-by, problem}
 use Rattle.meaning.specs.Proper.{Proper}
-use Rattle.meaning.specs.Runs.{values, next-values}
+use Rattle.meaning.specs.Runs.{values, next-values, meets-constraints}
 use Rattle.meaning.specs.Formulas.{formula}
 use Rattle.meaning.specs.Witnesses.{run, open-bytes}
 use Rattle.meaning.specs.Calls.{accepted, WellFormed, check-problem, judge-bytes, witnesses, find-witness, room-after-finding}
@@ -30,24 +30,24 @@ use Rattle.finder.proofs.Lazy.{Input, Meets, Breaks, other-answer-break
 
 -- ════════ What the promise gives ════════
 
--- Words under the known version, and a room of so many bytes, each 7.
+-- Words of version 1, and a room of so many bytes, each 7.
 abbrev pub over : List ℕ → ℕ → Input
 over ws n = record { version = 1; words = ws; room = replicate n 7 }
 
 -- The answer that documents 01 and 02 lay down, and the room after an answer.
 unfoldable pub laid-down : Input → Answer
-unfolding header-words inputs-limit latches-limit gates-limit nodes-limit bound-limit search-limit problem-by problem values next-values formula run judge-bytes witnesses find-witness
+unfolding header-words inputs-limit latches-limit gates-limit nodes-limit bound-limit constraints-limit search-limit problem-by problem values next-values meets-constraints formula run judge-bytes witnesses find-witness
 laid-down x = find-witness (x .version) (x .words) (length (x .room))
 
 unfoldable pub room-left : Input → Answer → List ℕ
-unfolding header-words problem-by problem values next-values formula run judge-bytes witnesses room-after-finding
+unfolding header-words problem-by problem values next-values meets-constraints formula run judge-bytes witnesses room-after-finding
 room-left x a = room-after-finding a (x .version) (x .words) (x .room)
 
 -- The outcomes that are told apart below.
 pub none-not-found : {n : ℕ} → ¬ (NoneExists ≡ Found n)
 none-not-found e = let z : _≡_ {A = ℕ} 0 1 = cc in omega arith
 
-found-not-none : {n : ℕ} → ¬ (Found n ≡ NoneExists)
+pub found-not-none : {n : ℕ} → ¬ (Found n ≡ NoneExists)
 found-not-none e = none-not-found (sym e)
 
 none-not-small : {n : ℕ} → ¬ (NoneExists ≡ RoomTooSmall n)
@@ -212,7 +212,7 @@ abbrev pub sixteen-open : Input
 sixteen-open = over (open-latches 16 34) 18
 
 sixteen-open-formed : WellFormed 1 (sixteen-open .words)
-unfolding header-words inputs-limit latches-limit gates-limit nodes-limit bound-limit check-problem
+unfolding header-words inputs-limit latches-limit gates-limit nodes-limit bound-limit constraints-limit check-problem
 sixteen-open-formed = refl
 
 -- Its candidates are too many to be computed, but the first run that meets the resets is a witness as a prefix.
@@ -229,11 +229,11 @@ first-of-all p proper e = best-is-first proper {best = record { first = 0; run =
     }
 
 sixteen-open-first : (rest : List (List ℕ)) × (witnesses (problem 1 (sixteen-open .words)) ≡ (0 ∷ (replicate 16 0 ++ (1 ∷ []))) ∷ rest)
-unfolding header-words problem-by problem values next-values formula run judge-bytes run-bytes
+unfolding header-words problem-by problem values next-values meets-constraints formula run judge-bytes run-bytes
 sixteen-open-first = first-of-all (problem 1 (sixteen-open .words)) (proper-if-well-formed 1 (sixteen-open .words) sixteen-open-formed) refl
 
 pub sixteen-open-meets : Meets sixteen-open (Found 18) (0 ∷ (replicate 16 0 ++ (1 ∷ [])))
-unfolding header-words inputs-limit latches-limit gates-limit nodes-limit bound-limit search-limit problem-by problem find-witness room-after-finding
+unfolding header-words inputs-limit latches-limit gates-limit nodes-limit bound-limit constraints-limit search-limit problem-by problem find-witness room-after-finding
 sixteen-open-meets = record { answered = rw (sixteen-open-first .1); room-after = rw (sixteen-open-first .1) }
 
 -- The fixed reset counted, so that 17 are open.

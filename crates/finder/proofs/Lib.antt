@@ -17,4 +17,5 @@ pub mod Means
 pub mod FoundCases
 pub mod Lazy
 pub mod LazyRuns
+pub mod LazyConstraints
 pub mod LazyAnswers

@@ -19,9 +19,9 @@ use Rattle.meaning.specs.Witnesses.{witness-length, open-bytes, at-or-before, W
 use Rattle.meaning.specs.Calls.{WellFormed, witnesses, finding-checks, first-found, room-after-finding}
 use Rattle.meaning.proofs.Check.{problem-checked, checked-if-well-formed, well-formed-if-checked, well-formed-if-over, proper-if-well-formed}
 use Rattle.meaning.proofs.Calls.{find-witness-is}
-use Rattle.pairing.specs.Bounds.{at-bound}
+use Rattle.pairing.specs.Excluded.{Excluded}
 use Rattle.pairing.specs.Pairs.{Model}
-use Rattle.pairing.proofs.FirstWitness.{first-witness, none-if-empty, empty-is-unsatisfiable, none-at-or-below}
+use Rattle.pairing.proofs.FirstWitness.{first-witness, none-if-empty, empty-is-unsatisfiable, empty-excludes}
 use Rattle.finder.specs.declared.Finding.{Finding}
 use Rattle.finder.specs.declared.Finding.the-variants.{Found, TooMuchOpen, RoomTooSmall, NoneExists}
 use Rattle.finder.specs.Promise.{answer-of, FoundAs, Searched}
@@ -159,16 +159,15 @@ module _ (version : ℕ) (ws room : List ℕ) {r : Finding} {after : List ℕ} (
         λ none. same-outcome (search ∙ rw (unsatisfiable .1 none)),
       )
 
-  -- And then no bound from 0 to k has a witness.
-  pub none-excludes : r ≡ NoneExists
-      → WellFormed version ws × Searched p (length room) × ((j : ℕ) → j ≤ p .bound → (bs : List ℕ) → Witness (at-bound p j) bs → ⊥)
+  -- And then there is no lasso at any bound from 0 to k and no prefix at k, and without constraints no witness at any of these bounds.
+  pub none-excludes : r ≡ NoneExists → WellFormed version ws × Searched p (length room) × Excluded p
   none-excludes e =
       let formed = formed-if-over 29 (lit< tt) (number-of (ap answer-of e)) in
       let search : search-answer ≡ none-exists 0 = sym (answered formed) ∙ ap answer-of e in
       let searched = searched-if p (length room) _ search (λ q. omega arith) (λ q. omega arith) in (
         formed,
         searched,
-        none-at-or-below p (proper-if-well-formed version ws formed) (none-if-none p (sym (searched-then p (length room) _ searched) ∙ search)),
+        empty-excludes p (proper-if-well-formed version ws formed) (none-if-none p (sym (searched-then p (length room) _ searched) ∙ search)),
       )
 
   -- Where a witness exists, one is found.

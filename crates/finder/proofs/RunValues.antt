@@ -1,5 +1,5 @@
 -- The values of a run: the row of a position, and what the loop over the positions keeps. Assumes nothing.
-use mathlib.Core.Bool.{Bool, false}
+use mathlib.Core.Bool.{Bool, true, false}
 use mathlib.Core.List.{List, [], _∷_, _++_, append-assoc}
 use mathlib.Core.Path.{_≡_, sym, _∙_, ap, ap₂}
 use Prim.Native.Nat.{ℕ, suc, _+_, _*_, _-_, _<_, _≤_}
@@ -7,13 +7,15 @@ use native.Mathlib.Decide.{ℕ-discrete}
 use native.Mathlib.Nat.{mul-suc, mul-le-mul-left}
 use native.Mathlib.Numerals.{add-one}
 use native.Mathlib.Omega.{arith}
+use borrow.Author.Count.{below-more}
 use lib.Dec.{eqb}
 use lib.ListN.{length, getD, take, drop, set, length-drop}
 use lib.Seq.{take-add, take-suc-set, getD-take, getD-drop, length-take-le, ext-getD}
+use Rattle.clauses.specs.Lists.{all-of}
 use Rattle.meaning.specs.Limits.{inputs-limit, latches-limit, bound-limit}
 use Rattle.meaning.specs.Problem.{Problem, W, latch}
 use Rattle.meaning.specs.Proper.{Proper}
-use Rattle.meaning.specs.Runs.{literal-value, values, with-gates}
+use Rattle.meaning.specs.Runs.{literal-value, values, meets-constraints, with-gates}
 use Rattle.meaning.specs.Witnesses.{byte, inputs-at, position}
 use Rattle.pairing.proofs.Runs.{position-first, position-inputs, position-next, length-inputs-at, length-latches}
 use Rattle.problem.specs.declared.Outline.{Outline}
@@ -22,8 +24,8 @@ use Rattle.witness.specs.Tables.{RowsRight, row-width, rows-room, row-in, given
 use Rattle.witness.specs.Values.{gates-put}
 use Rattle.witness.proofs.Copies.{bit-at}
 use Rattle.witness.proofs.RowGates.{gates-there}
-use Rattle.witness.proofs.RowLaws.{beginning-stays, put-there, wide-enough, next-value-in, one-more-row}
-use Rattle.finder.specs.Runs.{Held, Filled, Shown, run-bytes, given-limit, bit}
+use Rattle.witness.proofs.RowLaws.{beginning-stays, put-there, wide-enough, next-value-in, constraints-in-row, one-more-row}
+use Rattle.finder.specs.Runs.{Held, Filled, Shown, Broken, run-bytes, given-limit, bit}
 use Rattle.finder.proofs.Digits.{length-run}
 use Rattle.finder.proofs.Filling.{held-set, bit-set, bit-other}
 
@@ -75,7 +77,7 @@ bytes p m = 0 ∷ run-bytes p m
 
 -- ════════ The positions one after another ════════
 
--- Before position n: the rows before it are right, the latches up to its own are those of the run, and so are all inputs.
+-- Before position n: the rows before it are right and meet the constraints, the latches up to its own are those of the run, and so are all inputs.
 pub record RunTo (p : Problem) (m n : ℕ) (run : List (List Bool)) (table : List Bool) : Type 0 where
   pub within : n ≤ p .bound + 1
   pub held : Held run
@@ -84,6 +86,7 @@ pub record RunTo (p : Problem) (m n : ℕ) (run : List (List Bool)) (table : Lis
       → bit run t i ≡ eqb (byte (run-bytes p m) (length (p .latches) + p .inputs * t + i)) 1
   pub latches-right : (t i : ℕ) → t ≤ n → t ≤ p .bound → i < length (p .latches)
       → bit run t (p .inputs + i) ≡ getD (position p (0 ∷ run-bytes p m) t .latches) i false
+  pub constraints-met : (t : ℕ) → t < n → meets-constraints p (position p (0 ∷ run-bytes p m) t) ≡ true
 
 module _ {p : Problem} {m : ℕ} where
   pub none-shown : {run : List (List Bool)} {table : List Bool} → Filled p m run → length table ≡ rows-room → RunTo p m 0 run table
@@ -93,6 +96,7 @@ module _ {p : Problem} {m : ℕ} where
     values-right = record { room = room; right = λ t h. absurd (omega arith) };
     inputs-right = filled .inputs-right;
     latches-right = λ t i l q h. first t i (omega arith) h;
+    constraints-met = λ t h. absurd (omega arith);
   }
     where
       first : (t i : ℕ) → t ≡ 0 → i < length (p .latches) → bit run t (p .inputs + i) ≡ getD (position p (bytes p m) t .latches) i false
@@ -107,6 +111,7 @@ module _ {p : Problem} {m : ℕ} where
       held = to .held;
       values-right = let e : n ≡ s .bound + 1 = omega (arith, to .within) in rw e at (to .values-right);
       latches-right = λ t i a h. to .latches-right t i (omega arith) (omega arith) h;
+      constraints-met = λ t h. to .constraints-met t (omega arith);
     }
 
     module _ (proper : Proper p) {n : ℕ} {run : List (List Bool)} {table : List Bool} (to : RunTo p m n run table) (here : n ≤ s .bound) where
@@ -156,18 +161,34 @@ module _ {p : Problem} {m : ℕ} where
           one-more-row (to .values-right) proper long (omega (arith, proper .bound-within))
           (rw (← (z .inputs-are), ← (z .latches-are), given-of) at e)
 
+      -- Whether the row meets the constraints is whether the position does.
+      pub row-meets : {table′ : List Bool} → RowsRight p (bytes p m) (n + 1) table′ → {r : Bool} → r ≡ all-of (literal-value (row-in table′ n)) (p .constraints)
+          → r ≡ meets-constraints p (position p (bytes p m) n)
+      row-meets right e = e ∙ constraints-in-row right proper {t = n} (omega arith)
+
+      -- One position more meets them.
+      met-to : meets-constraints p (position p (bytes p m) n) ≡ true → (t : ℕ) → t < n + 1 → meets-constraints p (position p (bytes p m) t) ≡ true
+      met-to met = below-more (λ t. meets-constraints p (position p (bytes p m) t) ≡ true) n (to .constraints-met) met
+
+      -- It breaks a constraint.
+      pub broken-here : meets-constraints p (position p (bytes p m) n) ≡ false → Broken p m
+      broken-here e = record { at = n; within = within; broken = e }
+
       -- The last position has no next one.
-      pub last-shown : s .bound ≤ n → (table′ : List Bool) → RowsRight p (bytes p m) (n + 1) table′ → RunTo p m (n + 1) run table′
-      last-shown h table′ right = record {
+      pub last-shown : s .bound ≤ n → (table′ : List Bool) → RowsRight p (bytes p m) (n + 1) table′
+          → meets-constraints p (position p (bytes p m) n) ≡ true → RunTo p m (n + 1) run table′
+      last-shown h table′ right met = record {
         within = omega arith;
         held = to .held;
         values-right = right;
         inputs-right = to .inputs-right;
         latches-right = λ t i a q. to .latches-right t i (omega arith) q;
+        constraints-met = met-to met;
       }
 
       -- The latches of the next position, put into its row.
       module _ (h : n < s .bound) (table′ : List Bool) (right : RowsRight p (bytes p m) (n + 1) table′)
+          (met : meets-constraints p (position p (bytes p m) n) ≡ true)
           (row : List Bool) (long : length row ≡ length (getD run (n + 1) []))
           (latches : (i : ℕ) → i < s .latches → getD row (s .inputs + i) false ≡ literal-value (row-in table′ n) (latch p i .next))
           (inputs : (i : ℕ) → i < s .inputs → getD row i false ≡ getD (getD run (n + 1) []) i false) where
@@ -196,4 +217,5 @@ module _ {p : Problem} {m : ℕ} where
           values-right = right;
           inputs-right = λ t i a q. input-still t i q (ℕ-discrete t (n + 1)) ∙ to .inputs-right t i a q;
           latches-right = λ t i a b q. latch-there t i a b q (ℕ-discrete t (n + 1));
+          constraints-met = met-to met;
         }

@@ -50,5 +50,5 @@ module _ {s : Outline} {ws : List ℕ} {m : ℕ} {run : List (List Bool)} {table
       → accepted (problem-in s ws) (first ∷ run-bytes (problem-in s ws) m)
       ≡ closing (problem-in s ws) (0 ∷ run-bytes (problem-in s ws) m) (shape-of first) && value-in (problem-in s ws) first table
   judged-so first h =
-      accepted-is p m first (rw (shows s ws .bound-is) h)
+      accepted-is p m first (rw (shows s ws .bound-is) h) (λ t l. shown .constraints-met t (omega (arith, shows s ws .bound-is)))
       ∙ ap (closing p (0 ∷ run-bytes p m) (shape-of first) &&_) (sym (value-shown good (shown .values-right) first h))

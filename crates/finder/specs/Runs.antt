@@ -7,6 +7,7 @@ use lib.Dec.{eqb}
 use lib.ListN.{length, getD, replicate}
 use Rattle.meaning.specs.Limits.{inputs-limit, latches-limit}
 use Rattle.meaning.specs.Problem.{Problem, Latch}
+use Rattle.meaning.specs.Runs.{meets-constraints}
 use Rattle.meaning.specs.Witnesses.{byte, position}
 use Rattle.witness.specs.Tables.{RowsRight, positions-limit}
 
@@ -67,9 +68,16 @@ pub record Filled (p : Problem) (m : ℕ) (run : List (List Bool)) : Type 0 wher
       → bit run t i ≡ eqb (byte (run-bytes p m) (length (p .latches) + p .inputs * t + i)) 1
   pub latches-right : (i : ℕ) → i < length (p .latches) → bit run 0 (p .inputs + i) ≡ eqb (byte (run-bytes p m) i) 1
 
--- The first n positions of run m stand in the run's table, and in that of the values.
+-- The first n positions of run m meet the constraints, and stand in the run's table and in that of the values.
 pub record Shown (p : Problem) (m n : ℕ) (run : List (List Bool)) (table : List Bool) : Type 0 where
   pub held : Held run
   pub values-right : RowsRight p (0 ∷ run-bytes p m) n table
   pub latches-right : (t i : ℕ) → t < n → i < length (p .latches)
       → bit run t (p .inputs + i) ≡ getD (position p (0 ∷ run-bytes p m) t .latches) i false
+  pub constraints-met : (t : ℕ) → t < n → meets-constraints p (position p (0 ∷ run-bytes p m) t) ≡ true
+
+-- A position of run m breaks a constraint.
+pub record Broken (p : Problem) (m : ℕ) : Type 0 where
+  pub at : ℕ
+  pub within : at ≤ p .bound
+  pub broken : meets-constraints p (position p (0 ∷ run-bytes p m) at) ≡ false

@@ -19,7 +19,7 @@ pub(crate) struct Best {
     pub(crate) run: u32,
 }
 
-// The lowest first byte below a limit that makes run m a witness, or the limit.
+// The lowest first byte below a limit that makes run m a witness, or the limit; no first byte is tried where the run breaks a constraint.
 fn tried(
     words: &[u32],
     s: Outline,
@@ -31,8 +31,10 @@ fn tried(
     requires { ⌜ ProperIn s (now words) × (limit ≤ s .bound + 2) × Held (now run) × (length (now table) ≡ rows-room) ⌝ }
     ensures { λ r. ⌜ Lowest (problem-in s (now (words .entry))) (run-bytes (problem-in s (now (words .entry))) m) limit r × Held (now (run .exit)) ⌝ }
 {
-    run_values(words, s, m, run, table);
-    lowest(words, s, run, table, limit)
+    if run_values(words, s, m, run, table) {
+        return lowest(words, s, run, table, limit);
+    }
+    limit
 }
 
 // The best of so many runs; with 0, a prefix, nothing is lower.

@@ -1,4 +1,4 @@
-// The values of a candidate run: each position's row from the run's table, its gates by the code of the witness judge.
+// The values of a candidate run: each position's row from the run's table, its gates and constraints by the code of the witness judge.
 use crate::run::GIVEN;
 use crate::run::fill;
 use problem::Outline;
@@ -8,16 +8,18 @@ use witness::rows::POSITIONS;
 use witness::rows::ROW_WIDTH;
 use witness::rows::gates;
 use witness::rows::literal;
-ghost use mathlib.Core.Bool.{false};
+use witness::rows::meets_constraints;
+ghost use mathlib.Core.Bool.{true, false};
 ghost use mathlib.Core.List.{_∷_, _++_};
 ghost use mathlib.Core.Path.{_≡_};
 ghost use Prim.Native.Nat.{ℕ, _+_, _*_, _<_, _≤_};
 ghost use lib.ListN.{length, getD, take};
+ghost use Rattle.clauses.specs.Lists.{all-of};
 ghost use Rattle.meaning.specs.Problem.{W, latch};
 ghost use Rattle.meaning.specs.Runs.{literal-value, with-gates};
 ghost use Rattle.problem.specs.Promise.{problem-in, ProperIn};
-ghost use Rattle.witness.specs.Tables.{row-width, rows-room};
-ghost use Rattle.finder.specs.Runs.{Held, Shown, given-limit};
+ghost use Rattle.witness.specs.Tables.{row-width, rows-room, row-in};
+ghost use Rattle.finder.specs.Runs.{Held, Shown, Broken, given-limit};
 
 // The first bits of a row, put into the table from a place on.
 fn copy(row: &[bool], count: usize, table: &mut [bool], at: usize)
@@ -48,6 +50,16 @@ fn row_values(words: &[u32], s: Outline, t: u32, row: &[bool], table: &mut [bool
     gates(words, s, &mut table[from..to]);
 }
 
+// Whether the values at a position meet the constraints.
+fn row_meets(words: &[u32], s: Outline, t: u32, table: &[bool]) -> bool
+    requires { ⌜ (t + 1) * row-width ≤ length (now table) ⌝ }
+    ensures { λ r. ⌜ r ≡ all-of (literal-value (row-in (now (table .entry)) t)) (problem-in s (now (words .entry)) .constraints) ⌝ }
+{
+    let from = (t as usize) * ROW_WIDTH;
+    let to = from + ROW_WIDTH;
+    meets_constraints(words, s, &table[from..to])
+}
+
 // The latches of the next position, from the values of this one.
 fn next_latches(words: &[u32], s: Outline, values: &[bool], next: &mut [bool])
     requires { ⌜ ProperIn s (now words) × (length (now next) ≡ given-limit) ⌝ }
@@ -60,21 +72,24 @@ fn next_latches(words: &[u32], s: Outline, values: &[bool], next: &mut [bool])
     }
 }
 
-// Run m: its bits, and the values at each of its positions.
+// Run m: its bits, and the values at each of its positions. Answers whether all meet the constraints; the first that does not ends it.
 pub(crate) fn run_values(
     words: &[u32],
     s: Outline,
     m: u32,
     run: &mut [[bool; GIVEN]; POSITIONS],
     table: &mut [bool],
-)
+) -> bool
     requires { ⌜ ProperIn s (now words) × Held (now run) × (length (now table) ≡ rows-room) ⌝ }
-    ensures { λ r. ⌜ Shown (problem-in s (now (words .entry))) m (s .bound + 1) (now (run .exit)) (now (table .exit)) ⌝ }
+    ensures { λ r. ⌜ Held (now (run .exit)) × (r ≡ true → Shown (problem-in s (now (words .entry))) m (s .bound + 1) (now (run .exit)) (now (table .exit))) × (r ≡ false → Broken (problem-in s (now (words .entry))) m) ⌝ }
 {
     fill(words, s, m, run);
     let mut t: u32 = 0;
     while t <= s.bound {
         row_values(words, s, t, &run[t as usize], table);
+        if !row_meets(words, s, t, table) {
+            return false;
+        }
         if t < s.bound {
             let from = (t as usize) * ROW_WIDTH;
             let to = from + ROW_WIDTH;
@@ -82,4 +97,5 @@ pub(crate) fn run_values(
         }
         t += 1;
     }
+    true
 }

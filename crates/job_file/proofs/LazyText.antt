@@ -9,7 +9,7 @@ use lib.ListN.{length, getD, replicate, length-append}
 use Rattle.clauses.specs.Answers.{answer, first-failing, granted}
 use Rattle.clauses.proofs.Answers.{number-of, place-of}
 use Rattle.text.specs.Numbers.{decimal}
-use Rattle.meaning.specs.Limits.{inputs-limit, latches-limit, gates-limit, nodes-limit, bound-limit, job-limit, program-room}
+use Rattle.meaning.specs.Limits.{inputs-limit, latches-limit, gates-limit, nodes-limit, bound-limit, constraints-limit, job-limit, program-room}
 use Rattle.meaning.specs.Answers.{bad-job}
 use Rattle.meaning.specs.Problem.{header-words, problem-by, problem}
 use Rattle.meaning.specs.Cnf.{variables, cnf, cnf-words}
@@ -84,7 +84,7 @@ other-number-breaks r p = let z : _≡_ {A = ℕ} 52 53 = ap (λ (bs : List ℕ)
 
 -- One text for case T and for a job of another version.
 pub same-for-all-breaks : (n : ℕ) (out left : List ℕ) → ¬ (Prints (printed T-file) out (Bytes n) left × Prints (printed other-version) out (Bytes n) left)
-unfolding header-words problem-by problem cnf cnf-words variables inputs-limit latches-limit gates-limit nodes-limit bound-limit job-limit program-room job-words job-checks decimal cnf-text refusal-line job-answer printed
+unfolding header-words problem-by problem cnf cnf-words variables inputs-limit latches-limit gates-limit nodes-limit bound-limit constraints-limit job-limit program-room job-words job-checks decimal cnf-text refusal-line job-answer printed
 same-for-all-breaks n out left (p, q) =
     let z : length T-text ≡ 16 = sym ((written-whole p) .0) ∙ (written-whole q) .0 in
     omega arith

@@ -19,9 +19,9 @@ use Rattle.clauses.specs.CnfWords.{ended-by-0, words-of}
 use Rattle.clauses.proofs.Satisfaction.{both-true, first-true, second-true, all-of-append, all-of-at, all-of-weaker}
 use Rattle.clauses.proofs.Answers.{number-of, passing, first-failing-passed, all-pass-if-yes}
 use Rattle.text.proofs.Decimals.{length-within}
-use Rattle.meaning.specs.Limits.{job-limit, program-room}
-use Rattle.meaning.specs.Problem.{Problem, problem, Outline, outline, latch-place, gate-place, node-place, words-in-all}
-use Rattle.meaning.specs.Check.{header-checks, limit-checks, length-checks, latch-checks, gate-checks, node-checks, each-below}
+use Rattle.meaning.specs.Limits.{constraints-limit, job-limit, program-room}
+use Rattle.meaning.specs.Problem.{Problem, problem, Outline, outline, latch-place, gate-place, constraint-place, node-place, words-in-all}
+use Rattle.meaning.specs.Check.{header-checks, limit-checks, length-checks, latch-checks, gate-checks, constraint-checks, node-checks, each-below}
 use Rattle.meaning.specs.Proper.{Proper}
 use Rattle.meaning.specs.Cnf.{cnf, cnf-words, variables}
 use Rattle.meaning.specs.Calls.{check-parts, WellFormed, room-checks, write-cnf}
@@ -120,7 +120,8 @@ module _ (p : Problem) (proper : Proper p) where
       rw (← text-of-cnf p proper) (omega arith)
 
   words-few : length (cnf-words p) < place-limit
-  words-few = omega (arith, largest-if-proper p proper)
+  unfolding constraints-limit
+  words-few = omega (arith, largest-if-proper p proper, proper .constraints-within)
 
 -- ════════ The answer to words ════════
 
@@ -146,6 +147,10 @@ module _ (version : ℕ) (ws : List ℕ) (few : length ws ≤ job-limit) where
         both-true (lt-ltb (gate-place o j) _ (omega arith))
         (both-true (lt-ltb (gate-place o j + 1) _ (omega arith)) refl)
 
+    constraint-low : (c : ℕ) → c < o .constraints → all-of low (constraint-checks o ws c) ≡ true
+    unfolding job-limit
+    constraint-low c l = both-true (lt-ltb (constraint-place o c) _ (omega arith)) refl
+
     node-low : (n : ℕ) → n < o .nodes → all-of low (node-checks o ws n) ≡ true
     unfolding job-limit
     node-low n l =
@@ -157,15 +162,16 @@ module _ (version : ℕ) (ws : List ℕ) (few : length ws ≤ job-limit) where
   unfolding problem-checked
   checked-low after h =
       first-failing-low (header-checks version ws) _ (rw length-low) λ header.
-      first-failing-low (limit-checks ws) _ refl λ limits.
+      first-failing-low (limit-checks version ws) _ refl λ limits.
       first-failing-low (length-checks o ws) _ (rw length-low) λ lengths.
       let all = eqb-true _ _ (passes-at (length-checks o ws) 0 lengths (lit< tt)) in
       first-failing-low (each-below (o .latches) (latch-checks o ws)) _ (all-of-each-below low _ _ (latch-low all)) λ latches.
       first-failing-low (each-below (o .gates) (gate-checks o ws)) _ (all-of-each-below low _ _ (gate-low all)) λ gates.
+      first-failing-low (each-below (o .constraints) (constraint-checks o ws)) _ (all-of-each-below low _ _ (constraint-low all)) λ constraints.
       first-failing-low (each-below (o .nodes) (node-checks o ws)) _ (all-of-each-below low _ _ (node-low all)) λ nodes.
       h
       (well-formed-if-all-pass version ws
-      (all-of-joined passing (check-parts version ws) .1 (header and limits and lengths and latches and gates and nodes and tt)))
+      (all-of-joined passing (check-parts version ws) .1 (header and limits and lengths and latches and gates and constraints and nodes and tt)))
 
   write-low : (room : ℕ) → LowAnswer (write-cnf version ws room)
   write-low room =

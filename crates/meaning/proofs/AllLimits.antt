@@ -1,4 +1,5 @@
--- The CNF of a problem at all limits has the document's 437,012 words, there is such a problem, and no CNF is larger. Assumes nothing.
+-- The CNF of a problem at all limits has the document's 437,012 words, and 64 for each constraint; there is such a problem, and no CNF of as many
+-- constraints is larger. Assumes nothing.
 use mathlib.Core.Path.{_≡_, refl, sym, _∙_, ap}
 use mathlib.Core.Bool.{Bool, true, true≢false}
 use mathlib.Core.List.{List, [], _∷_}
@@ -12,7 +13,7 @@ use lib.Seq.{getD-drop}
 use Rattle.clauses.specs.Lists.{numbers, each, all-of, those, sum}
 use Rattle.clauses.proofs.Satisfaction.{both-true, all-of-member, those-few}
 use Rattle.clauses.proofs.Answers.{passing}
-use Rattle.meaning.specs.Limits.{inputs-limit, latches-limit, gates-limit, nodes-limit, bound-limit}
+use Rattle.meaning.specs.Limits.{inputs-limit, latches-limit, gates-limit, nodes-limit, bound-limit, constraints-limit}
 use Rattle.meaning.specs.Problem.{Problem, Latch, Node, atom, both, either, next, until, release, latch, node, Outline, header-words, outline, problem-by, problem, word, latch-place, gate-place, node-place}
 use Rattle.meaning.specs.Check.{largest-literal, gate-limit, largest-reset, latch-checks, gate-checks, node-checks}
 use Rattle.meaning.specs.Proper.{NodeProper, Proper}
@@ -20,7 +21,7 @@ use Rattle.meaning.specs.Cnf.{variables, cnf, cnf-words}
 use Rattle.meaning.specs.Cases.{UntilOrRelease, AtAllLimits, limit-nodes, limit-zeros, limit-words}
 use Rattle.meaning.specs.Calls.{check-parts, WellFormed}
 use Rattle.meaning.proofs.Numbers.{member-of-numbers, all-of-each-below}
-use Rattle.meaning.proofs.ShownBy.{latch-by}
+use Rattle.meaning.proofs.ShownBy.{latch-by, none-in-version-1}
 use Rattle.meaning.proofs.ItemByItem.{_and_, all-of-joined}
 use Rattle.meaning.proofs.Check.{well-formed-if-all-pass, proper-if-well-formed}
 use Rattle.meaning.proofs.ClosedForms.{fixed-resets, has-equal-form, has-or-form, has-until-form, Tally, tally, node-count, variables-of, equal-weight, or-weight, selected-weight, values-weight, end-weight, item-totals, variable-count, clause-count, word-count}
@@ -60,7 +61,7 @@ unfolding limit-words header-words
 limits-nodes = refl
 
 pub limits-formed : WellFormed 1 limit-words
-unfolding limit-words header-words inputs-limit latches-limit gates-limit nodes-limit bound-limit
+unfolding limit-words header-words inputs-limit latches-limit gates-limit nodes-limit bound-limit constraints-limit
 limits-formed =
     well-formed-if-all-pass 1 limit-words
     (all-of-joined passing (check-parts 1 limit-words) .1
@@ -69,6 +70,7 @@ limits-formed =
     and refl
     and all-of-each-below passing (latch-checks o limit-words) (o .latches) limits-latches
     and all-of-each-below passing (gate-checks o limit-words) (o .gates) limits-gates
+    and refl
     and limits-nodes
     and tt))
 
@@ -134,39 +136,41 @@ forms-at-limits (y ∷ xs) x l a u =
     let all-until : length (those has-until-form xs) ≡ length xs = those-all has-until-form (atom 0) xs pass in
     rw a (omega (arith, forms-are-all xs))
 
-abbrev limit-tally : Tally
-limit-tally = record {
+-- With so many constraints.
+abbrev limit-tally : ℕ → Tally
+limit-tally d = record {
   positions = bound-limit + 1;
   width = inputs-limit + latches-limit + gates-limit;
   latches = latches-limit;
   fixed = latches-limit;
   gates = gates-limit;
+  constraints = d;
   equals = 1;
   ors = 0;
   untils = nodes-limit - 1;
 }
 
-tally-at-limits : (p : Problem) → AtAllLimits p → tally p ≡ limit-tally
+tally-at-limits : (p : Problem) → AtAllLimits p → tally p ≡ limit-tally (length (p .constraints))
 tally-at-limits p at =
     let pass : (i : ℕ) → i < length (p .latches) → ltb (latch p i .reset) 2 ≡ true = λ i h. lt-ltb _ _ (at .resets-fixed i (rw (at .latches-are) at h)) in
     let fixed : fixed-resets (p .latches) ≡ length (p .latches) = those-all (λ (c : Latch). ltb (c .reset) 2) _ (p .latches) pass in
     let forms = forms-at-limits (p .nodes) (at .one-atom .0) (at .nodes-are) (at .one-atom .1) (at .others) in
     rw (fixed, forms .0, forms .1, forms .2, at .inputs-are, at .latches-are, at .gates-are, at .bound-is)
 
--- "At all limits, with every reset fixed and 63 U or R nodes over one atom, the CNF has 437,012 words"
-pub at-all-limits : (p : Problem) → AtAllLimits p → length (cnf-words p) ≡ 437_012
+-- "At all limits, with every reset fixed and 63 U or R nodes over one atom, the CNF has 437,012 words"; a constraint has two at each of 32 positions.
+pub at-all-limits : (p : Problem) → AtAllLimits p → length (cnf-words p) ≡ 437_012 + 64 * length (p .constraints)
 unfolding word-count inputs-limit latches-limit gates-limit nodes-limit bound-limit
-at-all-limits p at = word-count-is p ∙ ap (λ (t : Tally). sum (item-totals suc t)) (tally-at-limits p at)
+at-all-limits p at = word-count-is p ∙ ap (λ (t : Tally). sum (item-totals suc t)) (tally-at-limits p at) ∙ omega arith
 
 -- .. and its variables and clauses.
 pub limits-counted : (variables (problem 1 limit-words) ≡ 41_057) × (length (cnf (problem 1 limit-words)) ≡ 127_346) × (length (cnf-words (problem 1 limit-words)) ≡ 437_012)
 unfolding variable-count clause-count inputs-limit latches-limit gates-limit nodes-limit bound-limit
 limits-counted =
     let p = problem 1 limit-words in
-    let is : tally p ≡ limit-tally = tally-at-limits p limits-reached in (
+    let is : tally p ≡ limit-tally 0 = tally-at-limits p limits-reached ∙ ap (λ (xs : List ℕ). limit-tally (length xs)) (none-in-version-1 limit-words) in (
       variable-count-is p (proper-if-well-formed 1 limit-words limits-formed .nodes-some) ∙ ap variables-of is,
       clause-count-is p ∙ ap (λ (t : Tally). sum (item-totals (λ n. 1) t)) is,
-      at-all-limits p limits-reached,
+      at-all-limits p limits-reached ∙ rw none-in-version-1,
     )
 
 -- ════════ No CNF is larger ════════
@@ -186,7 +190,7 @@ some-equal [] l e = absurd (omega arith)
 some-equal (x ∷ xs) l e = rw e (omega arith)
 
 -- Each item grows with what is counted. Until and Release are the heaviest forms, and one node at least has the lightest, x=a.
-pub largest-if-proper : (p : Problem) → Proper p → length (cnf-words p) ≤ 437_012
+pub largest-if-proper : (p : Problem) → Proper p → length (cnf-words p) ≤ 437_012 + 64 * length (p .constraints)
 unfolding word-count latches-limit gates-limit nodes-limit bound-limit
 largest-if-proper p proper =
     let t = tally p in
@@ -199,17 +203,18 @@ largest-if-proper p proper =
     let paired : t .positions * (t .positions - 1) ≤ (bound-limit + 1) * bound-limit = mul-le-mul positions before-last in
     let one : 1 ≤ t .equals = some-equal (p .nodes) (proper .nodes-some) (first-is-atom p (node p 0) (proper .nodes-proper 0 (proper .nodes-some))) in
     let all : node-count t ≤ nodes-limit = omega (arith, forms-are-all (p .nodes)) in
-    let value : values-weight suc t ≤ values-weight suc limit-tally = omega arith in
-    let end : end-weight suc t ≤ end-weight suc limit-tally = omega arith in
+    let value : values-weight suc t ≤ values-weight suc (limit-tally 0) = omega arith in
+    let end : end-weight suc t ≤ end-weight suc (limit-tally 0) = omega arith in
     omega (
       arith,
       word-count-is p,
       mul-le-mul positions gate,
+      mul-le-mul-right (t .constraints * 2) positions,
       mul-le-mul before-last step,
       mul-le-mul positions closed,
       mul-le-mul positions value,
       mul-le-mul all end,
     )
 
-pub largest-cnf : (version : ℕ) (ws : List ℕ) → WellFormed version ws → length (cnf-words (problem version ws)) ≤ 437_012
+pub largest-cnf : (version : ℕ) (ws : List ℕ) → WellFormed version ws → length (cnf-words (problem version ws)) ≤ 437_012 + 64 * length (problem version ws .constraints)
 largest-cnf version ws formed = largest-if-proper (problem version ws) (proper-if-well-formed version ws formed)

@@ -12,13 +12,13 @@ use Rattle.clauses.specs.Lists.{all-of, joined}
 use Rattle.clauses.specs.Answers.{Answer, Check, check, first-failing, first-failing-part, granted}
 use Rattle.clauses.proofs.Satisfaction.{both-true, false-if-not-true, all-of-at, first-true, second-true}
 use Rattle.clauses.proofs.Answers.{passing, refusing, other-than, passed-by-number, first-failing-passed, first-failing-joined, parts-append, all-pass-if-yes, number-of}
-use Rattle.meaning.specs.Problem.{Problem, W, Outline, outline, word, node-place, children, node-of, problem-by, problem}
-use Rattle.meaning.specs.Check.{largest-literal, first-right, second-right, children-of, header-checks, limit-check, limit-checks, length-checks, latch-checks, gate-checks, node-checks}
+use Rattle.meaning.specs.Problem.{Problem, W, Outline, outline, word, constraint-place, node-place, children, node-of, problem-by, problem}
+use Rattle.meaning.specs.Check.{largest-literal, first-right, second-right, children-of, header-checks, limit-check, limit-checks, length-checks, latch-checks, gate-checks, constraint-checks, node-checks}
 use Rattle.meaning.specs.Proper.{LatchRight, GateRight, FirstRight, SecondRight, NodeRight, InLimits, RulesMet, NodeProper, Proper}
 use Rattle.meaning.specs.Calls.{check-parts, check-problem, WellFormed}
 use Rattle.meaning.proofs.ItemByItem.{_and_, all-of-joined}
 use Rattle.meaning.proofs.Numbers.{all-of-each-below, all-of-below}
-use Rattle.meaning.proofs.ShownBy.{inputs-by, bound-by, latches-by, gates-by, nodes-by, W-by, latch-by, gate-by, node-by}
+use Rattle.meaning.proofs.ShownBy.{inputs-by, bound-by, latches-by, gates-by, constraints-by, nodes-by, W-by, latch-by, gate-by, constraint-by, node-by}
 
 -- ════════ Tests and checks in general ════════
 
@@ -37,7 +37,7 @@ pub passes-at : (cs : List Check) (k : ℕ) → all-of passing cs ≡ true → k
     → (getD cs k (check true (granted 0))) .passes ≡ true
 passes-at cs k = all-of-at passing cs k (check true (granted 0))
 
--- ════════ One latch, gate or node ════════
+-- ════════ One latch, gate, constraint or node ════════
 
 first-passes : (o : Outline) (n c a : ℕ) → FirstRight o n c a → first-right o n c a ≡ true
 first-passes o n zero a r = le-leb _ _ r
@@ -75,6 +75,12 @@ module _ (o : Outline) (ws : List ℕ) (i : ℕ) where
     left-below = leb-true _ _ (passes-at (gate-checks o ws i) 0 e (lit< tt));
     right-below = leb-true _ _ (passes-at (gate-checks o ws i) 1 e (lit< tt));
   }
+
+  constraint-passes : word ws (constraint-place o i) ≤ largest-literal o → all-of passing (constraint-checks o ws i) ≡ true
+  constraint-passes r = both-true (le-leb _ _ r) refl
+
+  constraint-if-passes : all-of passing (constraint-checks o ws i) ≡ true → word ws (constraint-place o i) ≤ largest-literal o
+  constraint-if-passes e = leb-true _ _ (passes-at (constraint-checks o ws i) 0 e (lit< tt))
 
   node-passes : NodeRight o ws i → all-of passing (node-checks o ws i) ≡ true
   node-passes r =
@@ -132,10 +138,11 @@ module _ (version : ℕ) (ws : List ℕ) where
   all-checks-other k other =
       all-of-joined (other-than k) (check-parts version ws) .1
       (both-true (is 15 (omega arith) (omega arith)) (both-true one refl)
-      and both-true two (both-true two (both-true two (both-true two (both-true two refl))))
+      and both-true two (both-true two (both-true two (both-true two (both-true two (both-true two refl)))))
       and both-true one refl
       and all-of-each-below (other-than k) (latch-checks o ws) (o .latches) (λ i l. both-true four (both-true (is 3 (omega arith) (omega arith)) refl))
       and all-of-each-below (other-than k) (gate-checks o ws) (o .gates) (λ j l. both-true four (both-true four refl))
+      and all-of-each-below (other-than k) (constraint-checks o ws) (o .constraints) (λ c l. both-true four refl)
       and all-of-each-below (other-than k) (node-checks o ws) (o .nodes) (λ n l. both-true five (both-true five (both-true five refl)))
       and tt)
     where
@@ -160,22 +167,24 @@ module _ (version : ℕ) (ws : List ℕ) where
   pub all-checks-below : (k : ℕ) → 15 < k → all-of (other-than k) (all-checks version ws) ≡ true
   all-checks-below k over = all-checks-other k (λ n l h e. omega arith)
 
-  pub limits-pass : InLimits o → all-of passing (limit-checks ws) ≡ true
+  pub limits-pass : InLimits o → all-of passing (limit-checks version ws) ≡ true
   limits-pass w =
       both-true (limit-passes ws 0 _ _ zero-le (w .inputs-within))
       (both-true (limit-passes ws 1 _ _ zero-le (w .latches-within))
       (both-true (limit-passes ws 2 _ _ zero-le (w .gates-within))
       (both-true (limit-passes ws 3 _ _ (w .nodes-some) (w .nodes-within))
-      (both-true (limit-passes ws 4 _ _ zero-le (w .bound-within)) refl))))
+      (both-true (limit-passes ws 4 _ _ zero-le (w .bound-within))
+      (both-true (le-leb _ _ (w .constraints-within)) refl)))))
 
-  pub in-limits-if-pass : all-of passing (limit-checks ws) ≡ true → InLimits o
+  pub in-limits-if-pass : all-of passing (limit-checks version ws) ≡ true → InLimits o
   in-limits-if-pass e = record {
-    inputs-within = most-if-passes ws 0 _ _ (passes-at (limit-checks ws) 0 e (lit< tt));
-    latches-within = most-if-passes ws 1 _ _ (passes-at (limit-checks ws) 1 e (lit< tt));
-    gates-within = most-if-passes ws 2 _ _ (passes-at (limit-checks ws) 2 e (lit< tt));
-    nodes-some = least-if-passes ws 3 _ _ (passes-at (limit-checks ws) 3 e (lit< tt));
-    nodes-within = most-if-passes ws 3 _ _ (passes-at (limit-checks ws) 3 e (lit< tt));
-    bound-within = most-if-passes ws 4 _ _ (passes-at (limit-checks ws) 4 e (lit< tt));
+    inputs-within = most-if-passes ws 0 _ _ (passes-at (limit-checks version ws) 0 e (lit< tt));
+    latches-within = most-if-passes ws 1 _ _ (passes-at (limit-checks version ws) 1 e (lit< tt));
+    gates-within = most-if-passes ws 2 _ _ (passes-at (limit-checks version ws) 2 e (lit< tt));
+    nodes-some = least-if-passes ws 3 _ _ (passes-at (limit-checks version ws) 3 e (lit< tt));
+    nodes-within = most-if-passes ws 3 _ _ (passes-at (limit-checks version ws) 3 e (lit< tt));
+    bound-within = most-if-passes ws 4 _ _ (passes-at (limit-checks version ws) 4 e (lit< tt));
+    constraints-within = leb-true _ _ (passes-at (limit-checks version ws) 5 e (lit< tt));
   }
 
   pub all-pass-if-rules-met : RulesMet version ws → all-of passing (all-checks version ws) ≡ true
@@ -186,6 +195,7 @@ module _ (version : ℕ) (ws : List ℕ) where
       and both-true (eq-eqb _ _ (w .length-right)) refl
       and all-of-each-below passing (latch-checks o ws) (o .latches) (λ i l. latch-passes o ws i (w .latches-right i l))
       and all-of-each-below passing (gate-checks o ws) (o .gates) (λ j l. gate-passes o ws j (w .gates-right j l))
+      and all-of-each-below passing (constraint-checks o ws) (o .constraints) (λ c l. constraint-passes o ws c (w .constraints-right c l))
       and all-of-each-below passing (node-checks o ws) (o .nodes) (λ n l. node-passes o ws n (w .nodes-right n l))
       and tt)
 
@@ -197,7 +207,8 @@ module _ (version : ℕ) (ws : List ℕ) where
       let lengths = parts .1 .1 .0 in
       let latches = parts .1 .1 .1 .0 in
       let gates = parts .1 .1 .1 .1 .0 in
-      let nodes = parts .1 .1 .1 .1 .1 .0 in
+      let constraints = parts .1 .1 .1 .1 .1 .0 in
+      let nodes = parts .1 .1 .1 .1 .1 .1 .0 in
       record {
         version-known = ltb-true _ _ (passes-at (header-checks version ws) 0 header (lit< tt));
         header-there = leb-true _ _ (passes-at (header-checks version ws) 1 header (lit< tt));
@@ -205,6 +216,7 @@ module _ (version : ℕ) (ws : List ℕ) where
         length-right = eqb-true _ _ (passes-at (length-checks o ws) 0 lengths (lit< tt));
         latches-right = λ i l. latch-if-passes o ws i (all-of-below passing (latch-checks o ws) (o .latches) latches i l);
         gates-right = λ j l. gate-if-passes o ws j (all-of-below passing (gate-checks o ws) (o .gates) gates j l);
+        constraints-right = λ c l. constraint-if-passes o ws c (all-of-below passing (constraint-checks o ws) (o .constraints) constraints c l);
         nodes-right = λ n l. node-if-passes o ws n (all-of-below passing (node-checks o ws) (o .nodes) nodes n l);
       }
 
@@ -281,10 +293,12 @@ proper-if-well-formed version ws formed = record {
   nodes-some = rw nodes-by (within .nodes-some);
   nodes-within = rw nodes-by (within .nodes-within);
   bound-within = rw bound-by (within .bound-within);
+  constraints-within = rw constraints-by (within .constraints-within);
   next-in-range = λ i l. let m = is-latch i l in rw (latch-by o ws i m, W-by) (w .latches-right i m .next-in-range);
   reset-in-range = λ i l. let m = is-latch i l in rw (latch-by o ws i m) (w .latches-right i m .reset-in-range);
   left-below = λ j l. let m = is-gate j l in rw (gate-by o ws j m, latches-by, inputs-by) (w .gates-right j m .left-below);
   right-below = λ j l. let m = is-gate j l in rw (gate-by o ws j m, latches-by, inputs-by) (w .gates-right j m .right-below);
+  constraints-in-range = λ c l. let m : c < o .constraints = rw constraints-by at l in rw (constraint-by o ws c m, W-by) (w .constraints-right c m);
   nodes-proper = λ n l.
       let m : n < o .nodes = rw nodes-by at l in
       let r = w .nodes-right n m in

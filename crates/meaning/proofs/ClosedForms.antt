@@ -46,6 +46,7 @@ pub record Tally : Type 0 where
   pub latches : ℕ
   pub fixed : ℕ
   pub gates : ℕ
+  pub constraints : ℕ
   pub equals : ℕ
   pub ors : ℕ
   pub untils : ℕ
@@ -57,6 +58,7 @@ tally p = record {
   latches = length (p .latches);
   fixed = fixed-resets (p .latches);
   gates = length (p .gates);
+  constraints = length (p .constraints);
   equals = length (those has-equal-form (p .nodes));
   ors = length (those has-or-form (p .nodes));
   untils = length (those has-until-form (p .nodes));
@@ -99,11 +101,12 @@ values-weight w t =
 abbrev pub end-weight : (ℕ → ℕ) → Tally → ℕ
 end-weight w t = t .positions * selected-weight w + w (suc (t .positions))
 
--- What items 1 to 8 weigh, in order.
+-- What items 1 to 8 weigh, in order, the constraints after item 2.
 abbrev pub item-totals : (ℕ → ℕ) → Tally → List ℕ
 item-totals w t =
     w 1
     ∷ t .positions * (t .gates * or-weight w)
+    ∷ t .positions * (t .constraints * w 1)
     ∷ t .fixed * w 1
     ∷ (t .positions - 1) * (t .latches * equal-weight w)
     ∷ t .positions * (t .latches * selected-weight w)

@@ -12,7 +12,7 @@ use Rattle.clauses.specs.Lists.{numbers, each, those, sum}
 use Rattle.clauses.specs.Clauses.{Clause, negated}
 use Rattle.clauses.specs.CnfWords.{words-of}
 use Rattle.meaning.specs.Problem.{Problem, Latch, Node, latch, node, atom, both, either, next, until, release}
-use Rattle.meaning.specs.Cnf.{variables, positions, selector, latch-at, truth-item, gate-clauses, gates-item, reset-unit, resets-item, steps-item, closing-clauses, closing-item, selectors-item, P-clauses, Q-clauses, E-clauses, node-clauses, nodes-item, formula-item, cnf-items, cnf, cnf-words}
+use Rattle.meaning.specs.Cnf.{variables, positions, selector, latch-at, truth-item, gate-clauses, gates-item, constraint-unit, constraints-item, reset-unit, resets-item, steps-item, closing-clauses, closing-item, selectors-item, P-clauses, Q-clauses, E-clauses, node-clauses, nodes-item, formula-item, cnf-items, cnf, cnf-words}
 use Rattle.meaning.proofs.ClosedForms.{fixed-resets, has-equal-form, has-or-form, has-until-form, tally, pairs, node-count, equal-weight, or-weight, until-weight, selected-weight, values-weight, end-weight, item-totals, variable-count, clause-count, word-count}
 use Rattle.meaning.proofs.Numbers.{length-numbers}
 use Rattle.meaning.proofs.ItemByItem.{_∷≡_, total, total-append, total-by-items}
@@ -121,6 +121,11 @@ module _ (w : ℕ → ℕ) (p : Problem) where
       total-numbers w 0 (p .bound + 1) _ _
       (λ t. total-numbers w 0 (length (p .gates)) (gate-clauses p t) (or-weight w) (λ j. omega arith))
 
+  constraints-total : total w (constraints-item p) ≡ (p .bound + 1) * (length (p .constraints) * w 1)
+  constraints-total =
+      total-numbers w 0 (p .bound + 1) _ _
+      (λ t. total-numbers w 0 (length (p .constraints)) (constraint-unit p t) (w 1) (λ c. omega arith))
+
   reset-total : (r : ℕ) (x : ℤ) → total w (reset-unit r x) ≡ cond (ltb r 2) (w 1) 0
   reset-total zero x = omega arith
   reset-total (suc zero) x = omega arith
@@ -207,6 +212,7 @@ module _ (w : ℕ → ℕ) (p : Problem) where
   totals-are =
       truth-total w p
       ∷≡ gates-total w p
+      ∷≡ constraints-total w p
       ∷≡ resets-total w p
       ∷≡ steps-total w p
       ∷≡ closing-total w p

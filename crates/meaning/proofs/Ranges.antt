@@ -14,10 +14,10 @@ use Rattle.clauses.specs.Limits.{variables-limit}
 use Rattle.clauses.specs.Clauses.{Clause, variable-of, literal-within, Within}
 use Rattle.clauses.proofs.Satisfaction.{both-true, all-of-append, all-of-map, all-of-if-at, first-true, second-true, variable-of-negated}
 use Rattle.meaning.specs.Limits.{inputs-limit, latches-limit, gates-limit, nodes-limit, bound-limit}
-use Rattle.meaning.specs.Problem.{Problem, Left, Node, W, latch-variable, gate-variable, latch, gate, node, constant, child, atom, both, either, next, until, release}
+use Rattle.meaning.specs.Problem.{Problem, Left, Node, W, latch-variable, gate-variable, latch, gate, constraint, node, constant, child, atom, both, either, next, until, release}
 use Rattle.meaning.specs.Proper.{Proper, LeftProper, NodeProper}
 use Rattle.meaning.specs.Runs.{odd}
-use Rattle.meaning.specs.Cnf.{true-literal, false-literal, circuit-variable, literal-at, node-variables, selector, E, P, Q, Q-end, Q-at, left-at, variables, positions, latch-at, next-at, truth-item, gate-clauses, gates-item, reset-unit, resets-item, steps-item, closing-clauses, closing-item, selectors-item, P-clauses, Q-clauses, E-clauses, node-clauses, nodes-item, formula-item, cnf-items, cnf}
+use Rattle.meaning.specs.Cnf.{true-literal, false-literal, circuit-variable, literal-at, node-variables, selector, E, P, Q, Q-end, Q-at, left-at, variables, positions, latch-at, next-at, truth-item, gate-clauses, gates-item, constraint-unit, constraints-item, reset-unit, resets-item, steps-item, closing-clauses, closing-item, selectors-item, P-clauses, Q-clauses, E-clauses, node-clauses, nodes-item, formula-item, cnf-items, cnf}
 use Rattle.meaning.proofs.Numbers.{length-numbers, getD-numbers, all-of-each-number, all-of-each-below}
 use Rattle.meaning.proofs.ItemByItem.{_and_, within-by-items}
 use Rattle.meaning.proofs.Within.{clause-within, Fits, pos-fits, negated-fits, signed-fits, unit-within, two-fit, equal-form-within, or-form-within, and-form-within, until-form-within, release-form-within, selected-within, within-append}
@@ -112,6 +112,12 @@ module _ (p : Problem) (proper : Proper p) where
       (literal-fits t (gate p j .left) (omega arith) (omega arith))
       (literal-fits t (gate p j .right) (omega arith) (omega arith))
 
+  constraints-fit : Within (variables p) (constraints-item p)
+  constraints-fit =
+      all-of-each-below (clause-within (variables p)) _ (p .bound + 1) λ t ht.
+      all-of-each-below (clause-within (variables p)) (constraint-unit p t) (length (p .constraints)) λ c hc.
+      unit-within (literal-fits t (constraint p c) (omega arith) (proper .constraints-in-range c hc))
+
   reset-within : (r : ℕ) {x : ℤ} → Fits (variables p) x → Within (variables p) (reset-unit r x)
   reset-within zero h = unit-within (negated-fits h)
   reset-within (suc zero) h = unit-within h
@@ -204,6 +210,7 @@ literals-within p proper =
     within-by-items p (variables p) .1 (
     truth-within p proper
     and gates-within p proper
+    and constraints-fit p proper
     and resets-within p proper
     and steps-within p proper
     and closing-within p proper

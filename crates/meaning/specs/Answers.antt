@@ -2,11 +2,11 @@
 use Prim.Native.Nat.{ℕ}
 use Rattle.clauses.specs.Answers.{Answer, answer}
 
--- 1: under 5 words, or length not 5+2L+2A+3N; the length
+-- 1: under 5 words, or length not 5+2L+2A+3N (version 2: 6, and 6+2L+2A+D+3N; a circuit: 4, and 4+2L+2A+O); the length
 abbrev pub bad-length : ℕ → Answer
 bad-length = answer 1
 
--- 2: I, L, A, N or k outside limits; the word
+-- 2: I, L, A, N, k or D, of a circuit O, outside limits; the word
 abbrev pub outside-limits : ℕ → Answer
 outside-limits = answer 2
 
@@ -14,7 +14,7 @@ outside-limits = answer 2
 abbrev pub bad-reset : ℕ → Answer
 bad-reset = answer 3
 
--- 4: next or gate literal out of range; the word
+-- 4: next, gate or constraint literal, of a circuit an output, out of range; the word
 abbrev pub bad-literal : ℕ → Answer
 bad-literal = answer 4
 
@@ -57,6 +57,10 @@ witness-room-too-small = answer 18
 -- 19: AIGER text; the fault's first byte, or the length
 abbrev pub bad-text : ℕ → Answer
 bad-text = answer 19
+
+-- 20: a constraint is false; the first position
+abbrev pub constraint-broken : ℕ → Answer
+constraint-broken = answer 20
 
 -- 27: room for words or for text too small; the words or bytes needed
 abbrev pub output-room-too-small : ℕ → Answer

@@ -1,5 +1,5 @@
--- Document 01, and Q-3 of document 02: the whole answer of each problem call, and every lent buffer after it. "Order: 5 words, limits, length, then words in order;
--- then 6; then 7 to 10, or 11, 12, 13, 14": each call's order is one list of parts, and the first check in it that fails answers.
+-- Document 01, and Q-3 and Q-6 of document 02: the whole answer of each problem call, and every lent buffer after it. "Order: 5 words, limits, length,
+-- then words in order; then 6; then 7 to 10, or 11, 12, 13, 14": each call's order is one list of parts, and the first check in it that fails answers.
 -- Assumes nothing.
 use mathlib.Core.Bool.{Bool, cond}
 use mathlib.Core.List.{List, [], _∷_, _++_}
@@ -14,24 +14,25 @@ use Rattle.clauses.specs.Refutations.{refutation-checks, area-checks, step-chec
 use Rattle.meaning.specs.Limits.{search-limit}
 use Rattle.meaning.specs.Answers.{room-too-small, too-much-open, witness-room-too-small, none-exists}
 use Rattle.meaning.specs.Problem.{Problem, Outline, outline, problem}
-use Rattle.meaning.specs.Check.{header-checks, limit-checks, length-checks, latch-checks, gate-checks, node-checks, each-below}
-use Rattle.meaning.specs.Witnesses.{witness-length, shape, open-bytes, byte-checks, reset-checks, loop-checks, formula-checks, candidates}
+use Rattle.meaning.specs.Check.{header-checks, limit-checks, length-checks, latch-checks, gate-checks, constraint-checks, node-checks, each-below}
+use Rattle.meaning.specs.Witnesses.{witness-length, shape, open-bytes, byte-checks, reset-checks, loop-checks, position-checks, formula-checks, candidates}
 use Rattle.meaning.specs.Cnf.{cnf, cnf-words, variables}
 
 -- ════════ The order of answers ════════
 
--- ".. length, then words in order": 1, then 4 and 3 of each latch, 4 of each gate, 5 of each node.
+-- ".. length, then words in order": 1, then 4 and 3 of each latch, 4 of each gate and each constraint, 5 of each node.
 abbrev pub outline-parts : Outline → List ℕ → List (List Check)
 outline-parts o ws =
     length-checks o ws
     ∷ each-below (o .latches) (latch-checks o ws)
     ∷ each-below (o .gates) (gate-checks o ws)
+    ∷ each-below (o .constraints) (constraint-checks o ws)
     ∷ each-below (o .nodes) (node-checks o ws)
     ∷ []
 
 -- "5 words, limits, ..": 15 and 1, then 2, then those.
 abbrev pub check-parts : ℕ → List ℕ → List (List Check)
-check-parts version ws = header-checks version ws ∷ limit-checks ws ∷ outline-parts (outline version ws) ws
+check-parts version ws = header-checks version ws ∷ limit-checks version ws ∷ outline-parts (outline version ws) ws
 
 -- 6: the room has fewer words than the CNF.
 abbrev pub room-checks : Problem → ℕ → List Check
@@ -41,9 +42,10 @@ room-checks p room = check (leb (length (cnf-words p)) room) (room-too-small (le
 abbrev pub writing-parts : ℕ → List ℕ → ℕ → List (List Check)
 writing-parts version ws room = check-parts version ws ++ (room-checks (problem version ws) room ∷ [])
 
--- "then 7 to 10"
+-- "then 7 to 10"; 20 "after 9 and before 10".
 abbrev pub witness-parts : Problem → List ℕ → List (List Check)
-witness-parts p bs = byte-checks p bs ∷ reset-checks p bs ∷ loop-checks p bs (shape bs) ∷ formula-checks p bs ∷ []
+witness-parts p bs =
+    byte-checks p bs ∷ reset-checks p bs ∷ loop-checks p bs (shape bs) ∷ position-checks p bs ∷ formula-checks p bs ∷ []
 
 -- ".. or 11, 12", after 6: what is checked before the steps are judged. The last three numbers are the lengths of the CNF room and of the
 -- work areas.

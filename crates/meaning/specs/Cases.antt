@@ -1,15 +1,17 @@
--- Document 01's cases: T whole and the thirteen counts of witnesses, each by computing, and the problems at all limits. Assumes nothing.
+-- Document 01's cases: T whole and the thirteen counts of witnesses, each by computing, and the problems at all limits; cases of constraints, for
+-- Q-6 of document 02. Assumes nothing.
 use mathlib.Core.List.{List, [], _∷_, _++_, map}
 use mathlib.Core.Path.{_≡_, refl}
 use Prim.Native.Nat.{ℕ, _+_, _*_, _-_, _/_, _≤_, _<_}
-use lib.ListN.{length, replicate}
+use lib.IntN.{pos, negsuc}
+use lib.ListN.{length, take, drop, replicate}
 use Rattle.clauses.specs.Lists.{numbers, each}
-use Rattle.clauses.specs.Answers.{answer}
+use Rattle.clauses.specs.Answers.{answer, granted}
 use Rattle.clauses.specs.Refutations.{refutation-checks, area-checks, step-accepted}
 use Rattle.clauses.specs.Cases.{T-cnf, T-steps, T-other-steps}
-use Rattle.meaning.specs.Limits.{inputs-limit, latches-limit, gates-limit, nodes-limit, bound-limit, job-limit, program-room}
+use Rattle.meaning.specs.Limits.{inputs-limit, latches-limit, gates-limit, nodes-limit, bound-limit, constraints-limit, job-limit, program-room}
 use Rattle.meaning.specs.Problem.{Problem, Node, atom, both, either, next, until, release, latch, node, header-words, problem-by, problem}
-use Rattle.meaning.specs.Runs.{values, next-values}
+use Rattle.meaning.specs.Runs.{values, next-values, meets-constraints}
 use Rattle.meaning.specs.Formulas.{formula}
 use Rattle.meaning.specs.Witnesses.{run}
 use Rattle.meaning.specs.Cnf.{variables, cnf, cnf-words}
@@ -52,7 +54,7 @@ T-text =
     ++ bytes-of "4 0\n"
 
 pub T-is-printed : printed T-file ≡ T-text
-unfolding header-words problem-by problem cnf cnf-words variables inputs-limit latches-limit gates-limit nodes-limit bound-limit job-limit program-room job-words job-checks decimal cnf-text refusal-line job-answer printed
+unfolding header-words problem-by problem cnf cnf-words variables inputs-limit latches-limit gates-limit nodes-limit bound-limit constraints-limit job-limit program-room job-words job-checks decimal cnf-text refusal-line job-answer printed
 T-is-printed = refl
 
 -- "refused 15 at 0": a file of another version.
@@ -62,11 +64,11 @@ other-version-is-refused = refl
 
 -- "Refutation 0 2 12 5 0 is accepted; 0 12 5 0 is refused (13 at 0)."
 pub T-is-refuted : judge-refutation 1 T-words T-steps 38 7 13 ≡ answer 0 0
-unfolding header-words problem-by problem cnf cnf-words variables inputs-limit latches-limit gates-limit nodes-limit bound-limit judge-refutation refutation-checks area-checks step-accepted
+unfolding header-words problem-by problem cnf cnf-words variables inputs-limit latches-limit gates-limit nodes-limit bound-limit constraints-limit judge-refutation refutation-checks area-checks step-accepted
 T-is-refuted = refl
 
 pub T-is-not-refuted : judge-refutation 1 T-words T-other-steps 38 7 13 ≡ answer 13 0
-unfolding header-words problem-by problem cnf cnf-words variables inputs-limit latches-limit gates-limit nodes-limit bound-limit judge-refutation refutation-checks area-checks step-accepted
+unfolding header-words problem-by problem cnf cnf-words variables inputs-limit latches-limit gates-limit nodes-limit bound-limit constraints-limit judge-refutation refutation-checks area-checks step-accepted
 T-is-not-refuted = refl
 
 -- ════════ The thirteen counts ════════
@@ -127,12 +129,62 @@ thirteen-cases =
 
 -- The check says yes to each case, and the judge to as many witnesses as it says.
 pub thirteen-are-formed : map (λ (c : Case). check-problem 1 (c .words)) thirteen-cases ≡ map (λ (c : Case). answer 0 0) thirteen-cases
-unfolding header-words inputs-limit latches-limit gates-limit nodes-limit bound-limit check-problem
+unfolding header-words inputs-limit latches-limit gates-limit nodes-limit bound-limit constraints-limit check-problem
 thirteen-are-formed = refl
 
 pub thirteen-counts : map (λ (c : Case). length (witnesses (problem 1 (c .words)))) thirteen-cases ≡ map (λ (c : Case). c .count) thirteen-cases
-unfolding header-words problem-by problem values next-values formula run judge-bytes witnesses
+unfolding header-words problem-by problem values next-values meets-constraints formula run judge-bytes witnesses
 thirteen-counts = refl
+
+-- ════════ Constraints ════════
+
+-- T in version 2, with the constraint that the latch is off: its unit clause stands after item 2, which T does not have.
+abbrev pub T-constrained : List ℕ
+T-constrained = 0 ∷ 1 ∷ 0 ∷ 1 ∷ 0 ∷ 1 ∷ 3 ∷ 0 ∷ 3 ∷ 0 ∷ 2 ∷ 0 ∷ []
+
+pub T-constrained-is-written : cnf (problem 2 T-constrained) ≡ (pos 1 ∷ []) ∷ (negsuc 1 ∷ []) ∷ drop 1 (cnf (problem 1 T-words))
+unfolding header-words problem-by problem cnf
+T-constrained-is-written = refl
+
+-- "The starter and the stop solenoid can't both be on." Inputs starter and stop, a latch that says that the engine runs, which the starter sets and
+-- the stop clears; the last gate says that both are on. The fault is a starter that is on, and then the engine does not run: F (2 and X 7), bound 1.
+abbrev pub engine : List ℕ → List ℕ → List ℕ
+engine more constraints =
+    2 ∷ 1 ∷ 3 ∷ 5 ∷ 1 ∷ (more ++ (10 ∷ 0 ∷ 7 ∷ 3 ∷ 9 ∷ 5 ∷ 2 ∷ 4 ∷ [])
+    ++ constraints ++ atom-word 2 ++ atom-word 7 ++ next-of 1 ++ (1 ∷ 0 ∷ 2 ∷ []) ++ finally 3)
+
+-- Without the constraint there is a run with the fault, the first one with both on at position 0. With it there is none.
+pub fault-shown : take 1 (witnesses (problem 1 (engine [] []))) ≡ (0 ∷ 0 ∷ 1 ∷ 1 ∷ 0 ∷ 0 ∷ []) ∷ []
+unfolding header-words problem-by problem values next-values meets-constraints formula run judge-bytes witnesses
+fault-shown = refl
+
+-- Its unit clauses, at 0 and at 1, stand after those of the gates, (1) and eighteen more, and before the latch's, (-4).
+pub engine-is-written : take 3 (drop 19 (cnf (problem 2 (engine (1 ∷ []) (13 ∷ []))))) ≡ (negsuc 6 ∷ []) ∷ (negsuc 12 ∷ []) ∷ (negsuc 3 ∷ []) ∷ []
+unfolding header-words problem-by problem cnf
+engine-is-written = refl
+
+pub fault-vanishes : witnesses (problem 2 (engine (1 ∷ []) (13 ∷ []))) ≡ []
+unfolding header-words problem-by problem values next-values meets-constraints formula run judge-bytes witnesses
+fault-vanishes = refl
+
+-- "Prefixes can now get stuck": a latch that is off at position 0 and on from then on, and the constraint that it is off. The formula true has a prefix
+-- as its witness at bound 0, and none at bound 1.
+abbrev pub stuck : ℕ → List ℕ
+stuck k = 0 ∷ 1 ∷ 0 ∷ 1 ∷ k ∷ 1 ∷ 1 ∷ 0 ∷ 3 ∷ atom-word 1
+
+pub stuck-at-0 : witnesses (problem 2 (stuck 0)) ≡ (0 ∷ 0 ∷ []) ∷ []
+unfolding header-words problem-by problem values next-values meets-constraints formula run judge-bytes witnesses
+stuck-at-0 = refl
+
+pub stuck-at-1 : witnesses (problem 2 (stuck 1)) ≡ []
+unfolding header-words problem-by problem values next-values meets-constraints formula run judge-bytes witnesses
+stuck-at-1 = refl
+
+-- All of these words are well formed.
+pub constrained-are-formed : map (check-problem 2) (T-constrained ∷ engine (1 ∷ []) (13 ∷ []) ∷ stuck 0 ∷ stuck 1 ∷ [])
+    ≡ granted 0 ∷ granted 0 ∷ granted 0 ∷ granted 0 ∷ []
+unfolding header-words inputs-limit latches-limit gates-limit nodes-limit bound-limit constraints-limit check-problem
+constrained-are-formed = refl
 
 -- ════════ At all limits ════════
 
@@ -145,8 +197,8 @@ UntilOrRelease (next a) = ⊥
 UntilOrRelease (until a b) = Unit
 UntilOrRelease (release a b) = Unit
 
--- "At all limits, with every reset fixed and 63 U or R nodes over one atom": such a problem's CNF has 437,012 words, and no well-formed words
--- have a larger one (`at-all-limits` and `largest-cnf` of proofs/AllLimits).
+-- "At all limits, with every reset fixed and 63 U or R nodes over one atom": such a problem's CNF has 437,012 words, and 64 more for each constraint, and
+-- no well-formed words with as many constraints have a larger one (`at-all-limits` and `largest-cnf` of proofs/AllLimits).
 pub record AtAllLimits (p : Problem) : Type 0 where
   pub inputs-are : p .inputs ≡ inputs-limit
   pub latches-are : length (p .latches) ≡ latches-limit

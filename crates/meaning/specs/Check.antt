@@ -1,5 +1,5 @@
--- Document 01: the checks of a problem's words, 15 and 1 to 5, each with its number and place; their order stands in Calls. This is what is
--- signed for "well formed". Assumes nothing.
+-- Document 01, and Q-6 of document 02: the checks of a problem's words, 15 and 1 to 5, each with its number and place; their order stands in Calls.
+-- This is what is signed for "well formed". Assumes nothing.
 use mathlib.Core.Bool.{Bool, _&&_}
 use mathlib.Core.List.{List, [], _∷_}
 use Prim.Native.Nat.{ℕ, zero, suc, _+_, _*_}
@@ -7,9 +7,9 @@ use lib.Dec.{leb, ltb, eqb}
 use lib.ListN.{length, getD}
 use Rattle.clauses.specs.Lists.{numbers, each}
 use Rattle.clauses.specs.Answers.{Check, check}
-use Rattle.meaning.specs.Limits.{inputs-limit, latches-limit, gates-limit, nodes-limit, bound-limit}
+use Rattle.meaning.specs.Limits.{inputs-limit, latches-limit, gates-limit, nodes-limit, bound-limit, constraints-limit}
 use Rattle.meaning.specs.Answers.{bad-length, outside-limits, bad-reset, bad-literal, bad-node, bad-job}
-use Rattle.meaning.specs.Problem.{Outline, header-words, word, latch-place, gate-place, node-place, words-in-all, children}
+use Rattle.meaning.specs.Problem.{Outline, header-words, word, header-word, latch-place, gate-place, constraint-place, node-place, words-in-all, children}
 
 -- ════════ The rules ════════
 
@@ -51,13 +51,18 @@ header-checks version ws =
 abbrev pub limit-check : List ℕ → ℕ → ℕ → ℕ → Check
 limit-check ws i least most = check (leb least (word ws i) && leb (word ws i) most) (outside-limits i)
 
-abbrev pub limit-checks : List ℕ → List Check
-limit-checks ws =
+-- D is within its limit; a header without it passes.
+abbrev pub constraints-check : ℕ → List ℕ → Check
+constraints-check version ws = check (leb (header-word version ws 5) constraints-limit) (outside-limits 5)
+
+abbrev pub limit-checks : ℕ → List ℕ → List Check
+limit-checks version ws =
     limit-check ws 0 0 inputs-limit
     ∷ limit-check ws 1 0 latches-limit
     ∷ limit-check ws 2 0 gates-limit
     ∷ limit-check ws 3 1 nodes-limit
     ∷ limit-check ws 4 0 bound-limit
+    ∷ constraints-check version ws
     ∷ []
 
 abbrev pub length-checks : Outline → List ℕ → List Check
@@ -74,6 +79,11 @@ gate-checks o ws j =
     check (ltb (word ws (gate-place o j)) (gate-limit o j)) (bad-literal (gate-place o j))
     ∷ check (ltb (word ws (gate-place o j + 1)) (gate-limit o j)) (bad-literal (gate-place o j + 1))
     ∷ []
+
+-- "D literals, each at most 2W + 1"
+abbrev pub constraint-checks : Outline → List ℕ → ℕ → List Check
+constraint-checks o ws c =
+    check (leb (word ws (constraint-place o c)) (largest-literal o)) (bad-literal (constraint-place o c)) ∷ []
 
 abbrev pub node-checks : Outline → List ℕ → ℕ → List Check
 node-checks o ws n =

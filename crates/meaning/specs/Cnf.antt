@@ -1,4 +1,4 @@
--- Document 01, "The CNF": the clauses of a problem, items 1 to 8 in order. Assumes nothing.
+-- Document 01, "The CNF": the clauses of a problem, items 1 to 8 in order, with the constraints of Q-6 of document 02. Assumes nothing.
 use mathlib.Core.Bool.{Bool, true, false, cond}
 use mathlib.Core.List.{List, [], _∷_, _++_, map}
 use Prim.Native.Nat.{ℕ, zero, suc, _+_, _*_, _-_, _/_}
@@ -8,7 +8,7 @@ use lib.ListN.{length}
 use Rattle.clauses.specs.Lists.{numbers, each, joined}
 use Rattle.clauses.specs.Clauses.{Clause, negated}
 use Rattle.clauses.specs.CnfWords.{words-of}
-use Rattle.meaning.specs.Problem.{Problem, Left, Node, W, latch-variable, gate-variable, latch, gate, node, constant, child, atom, both, either, next, until, release}
+use Rattle.meaning.specs.Problem.{Problem, Left, Node, W, latch-variable, gate-variable, latch, gate, constraint, node, constant, child, atom, both, either, next, until, release}
 use Rattle.meaning.specs.Runs.{odd}
 
 -- ════════ Variables ════════
@@ -118,6 +118,13 @@ gate-clauses p t j =
 abbrev pub gates-item : Problem → List Clause
 gates-item p = each (positions p) (λ t. each (numbers 0 (length (p .gates))) (gate-clauses p t))
 
+abbrev pub constraint-unit : Problem → ℕ → ℕ → List Clause
+constraint-unit p t c = (literal-at p t (constraint p c) ∷ []) ∷ []
+
+-- Q-6: "Their unit clauses stand after item 2, by position, then in order."
+abbrev pub constraints-item : Problem → List Clause
+constraints-item p = each (positions p) (λ t. each (numbers 0 (length (p .constraints))) (constraint-unit p t))
+
 abbrev pub reset-unit : ℕ → ℤ → List Clause
 reset-unit zero x = (negated x ∷ []) ∷ []
 reset-unit (suc zero) x = (x ∷ []) ∷ []
@@ -208,11 +215,12 @@ formula-item p = (P p (length (p .nodes) - 1) 0 ∷ []) ∷ []
 
 -- ════════ The whole ════════
 
--- Items 1 to 8, in order.
+-- Items 1 to 8, in order, the constraints after item 2.
 abbrev pub cnf-items : Problem → List (List Clause)
 cnf-items p =
     truth-item
     ∷ gates-item p
+    ∷ constraints-item p
     ∷ resets-item p
     ∷ steps-item p
     ∷ closing-item p

@@ -1,4 +1,5 @@
--- Document 01, "Job file and program": the bytes of a job (15), the CNF's text, and what the program prints. Assumes nothing.
+-- Document 01, "Job file and program", with version 2 of Q-6 of document 02: the bytes of a job (15), the CNF's text, and what the program prints.
+-- Assumes nothing.
 use mathlib.Core.Bool.{true, false, _&&_}
 use mathlib.Core.List.{List, [], _∷_, _++_, map}
 use Prim.Native.Nat.{ℕ, _+_, _*_, _-_, _/_, _%_}
@@ -24,7 +25,7 @@ big-endian-after n (b ∷ bs) = big-endian-after (256 * n + b) bs
 abbrev pub number-at : List ℕ → ℕ → ℕ
 number-at bs i = big-endian-after 0 (take 4 (drop i bs))
 
--- "Version byte 1, a four-byte length of the rest, then the words"
+-- "Version byte 1, a four-byte length of the rest, then the words"; "Version byte 2: .."
 abbrev pub job-header : ℕ
 job-header = 5
 

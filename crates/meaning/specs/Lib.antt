@@ -12,5 +12,6 @@ pub mod LassoValue
 pub mod Witnesses
 pub mod Cnf
 pub mod Calls
+pub mod VersionOne
 pub mod JobFile
 pub mod Cases

@@ -17,6 +17,10 @@ nodes-limit = 64
 unfoldable pub bound-limit : ℕ
 bound-limit = 31
 
+-- "a sixth header word D, 0 to 16"
+unfoldable pub constraints-limit : ℕ
+constraints-limit = 16
+
 -- "Standard input, at most 16,384 bytes"
 unfoldable pub job-limit : ℕ
 job-limit = 16_384

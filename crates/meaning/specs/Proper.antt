@@ -4,8 +4,8 @@ use mathlib.Core.List.{List}
 use mathlib.Core.Path.{_≡_}
 use Prim.Native.Nat.{ℕ, zero, suc, _+_, _*_, _≤_, _<_}
 use lib.ListN.{length}
-use Rattle.meaning.specs.Limits.{inputs-limit, latches-limit, gates-limit, nodes-limit, bound-limit}
-use Rattle.meaning.specs.Problem.{Problem, Left, Node, constant, child, atom, both, either, next, until, release, W, gate-variable, latch, gate, node, Outline, outline, header-words, word, latch-place, gate-place, node-place, words-in-all, children}
+use Rattle.meaning.specs.Limits.{inputs-limit, latches-limit, gates-limit, nodes-limit, bound-limit, constraints-limit}
+use Rattle.meaning.specs.Problem.{Problem, Left, Node, constant, child, atom, both, either, next, until, release, W, gate-variable, latch, gate, constraint, node, Outline, outline, header-words, word, latch-place, gate-place, constraint-place, node-place, words-in-all, children}
 use Rattle.meaning.specs.Check.{largest-literal, gate-limit, largest-reset, children-of}
 
 -- ════════ The rules, of the words ════════
@@ -41,6 +41,7 @@ pub record InLimits (o : Outline) : Type 0 where
   pub nodes-some : 1 ≤ o .nodes
   pub nodes-within : o .nodes ≤ nodes-limit
   pub bound-within : o .bound ≤ bound-limit
+  pub constraints-within : o .constraints ≤ constraints-limit
 
 -- All that the check asks of the words.
 pub record RulesMet (version : ℕ) (ws : List ℕ) : Type 0 where
@@ -50,6 +51,7 @@ pub record RulesMet (version : ℕ) (ws : List ℕ) : Type 0 where
   pub length-right : length ws ≡ words-in-all (outline version ws)
   pub latches-right : (i : ℕ) → i < outline version ws .latches → LatchRight (outline version ws) ws i
   pub gates-right : (j : ℕ) → j < outline version ws .gates → GateRight (outline version ws) ws j
+  pub constraints-right : (c : ℕ) → c < outline version ws .constraints → word ws (constraint-place (outline version ws) c) ≤ largest-literal (outline version ws)
   pub nodes-right : (n : ℕ) → n < outline version ws .nodes → NodeRight (outline version ws) ws n
 
 -- ════════ The rules, of the record ════════
@@ -75,8 +77,10 @@ pub record Proper (p : Problem) : Type 0 where
   pub nodes-some : 1 ≤ length (p .nodes)
   pub nodes-within : length (p .nodes) ≤ nodes-limit
   pub bound-within : p .bound ≤ bound-limit
+  pub constraints-within : length (p .constraints) ≤ constraints-limit
   pub next-in-range : (i : ℕ) → i < length (p .latches) → latch p i .next ≤ 2 * W p + 1
   pub reset-in-range : (i : ℕ) → i < length (p .latches) → latch p i .reset ≤ largest-reset
   pub left-below : (j : ℕ) → j < length (p .gates) → gate p j .left < 2 * gate-variable p j
   pub right-below : (j : ℕ) → j < length (p .gates) → gate p j .right < 2 * gate-variable p j
+  pub constraints-in-range : (c : ℕ) → c < length (p .constraints) → constraint p c ≤ 2 * W p + 1
   pub nodes-proper : (n : ℕ) → n < length (p .nodes) → NodeProper p n (node p n)

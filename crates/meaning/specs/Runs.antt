@@ -1,10 +1,12 @@
--- Document 01, "Runs and meaning": the circuit's values at a position, next values, resets, runs. Assumes nothing.
+-- Document 01, "Runs and meaning": the circuit's values at a position, next values, resets, runs; the constraints of Q-6 of document 02.
+-- Assumes nothing.
 use mathlib.Core.Bool.{Bool, true, false, not, _&&_}
 use mathlib.Core.List.{List, [], _∷_, _++_, map}
 use mathlib.Core.Path.{_≡_}
 use Prim.Native.Nat.{ℕ, zero, suc, _/_, _%_, _<_}
 use lib.Dec.{eqb}
 use lib.ListN.{length, getD}
+use Rattle.clauses.specs.Lists.{all-of}
 use Rattle.meaning.specs.Problem.{Problem, Latch, Gate, latch}
 
 -- ════════ Values at a position ════════
@@ -48,6 +50,10 @@ meets-reset zero b = not b
 meets-reset (suc zero) b = b
 meets-reset (suc (suc r)) b = true
 
+-- The constraints, "each true at all positions": they are true at this one.
+unfoldable pub meets-constraints : Problem → Position → Bool
+meets-constraints p x = all-of (literal-value (values p x)) (p .constraints)
+
 -- ════════ Runs ════════
 
 -- "position t + 1 holds the next values of position t": the positions of a run from its first latches and its rows of inputs.
@@ -62,9 +68,10 @@ abbrev pub StartsRight : Problem → List Bool → Type 0
 StartsRight p latches = (i : ℕ) → i < length (p .latches) → meets-reset (latch p i .reset) (getD latches i false) ≡ true
 
 -- An endless run of the circuit: "inputs are free at each position; latches start by their resets, and position t + 1 holds the next
--- values of position t".
+-- values of position t". Q-6: "'endless run' now means one that meets the constraints at every position".
 pub record EndlessRun (p : Problem) (path : ℕ → Position) : Type 0 where
   pub inputs-there : (t : ℕ) → length (path t .inputs) ≡ p .inputs
   pub latches-there : length (path 0 .latches) ≡ length (p .latches)
   pub starts-right : StartsRight p (path 0 .latches)
   pub steps-right : (t : ℕ) → path (suc t) .latches ≡ next-values p (path t)
+  pub constraints-met : (t : ℕ) → meets-constraints p (path t) ≡ true

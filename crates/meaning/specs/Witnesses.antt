@@ -1,4 +1,5 @@
--- Document 01: a witness as bytes, what makes it one, and the checks 7 to 10 of its judge; byte order, for Q-3 of document 02. Assumes nothing.
+-- Document 01: a witness as bytes, what makes it one, and the checks 7 to 10 of its judge, with 20 of Q-6 of document 02; byte order, for its Q-3.
+-- Assumes nothing.
 use mathlib.Core.Bool.{Bool, true, false, Bool·beq, _&&_, _||_}
 use mathlib.Core.List.{List, [], _∷_, _++_, map}
 use mathlib.Core.Path.{_≡_}
@@ -7,9 +8,9 @@ use lib.Dec.{leb, ltb, eqb}
 use lib.ListN.{length, getD, take, drop}
 use Rattle.clauses.specs.Lists.{numbers, numbered, each, those}
 use Rattle.clauses.specs.Answers.{Check, check}
-use Rattle.meaning.specs.Answers.{bad-witness, against-reset, open-loop, formula-false}
+use Rattle.meaning.specs.Answers.{bad-witness, against-reset, open-loop, constraint-broken, formula-false}
 use Rattle.meaning.specs.Problem.{Problem, Latch, latch}
-use Rattle.meaning.specs.Runs.{Position, values, next-values, meets-reset, run-from, StartsRight}
+use Rattle.meaning.specs.Runs.{Position, values, next-values, meets-reset, meets-constraints, run-from, StartsRight}
 use Rattle.meaning.specs.Formulas.{formula, Holds}
 use Rattle.meaning.specs.Bounded.{Shape, prefix, lasso, looped, prefix-value}
 use Rattle.meaning.specs.LassoValue.{bounded-value}
@@ -70,6 +71,7 @@ pub record Witness (p : Problem) (bs : List ℕ) : Type 0 where
   pub start-in-range : byte bs 0 ≤ p .bound + 1
   pub bits-in-range : (i : ℕ) → 1 ≤ i → i < length bs → byte bs i ≤ 1
   pub starts-right : StartsRight p (first-latches p bs)
+  pub constraints-met : (t : ℕ) → t ≤ p .bound → meets-constraints p (position p bs t) ≡ true
   pub shows : Shows p bs (shape bs)
 
 -- ════════ The judge ════════
@@ -99,6 +101,10 @@ loop-checks p bs (lasso l) =
     map
     (λ i. check (Bool·beq (getD (next-values p (position p bs (p .bound))) i false) (getD (position p bs l .latches) i false)) (open-loop i))
     (numbers 0 (length (p .latches)))
+
+-- 20: the first position at which a constraint is false.
+abbrev pub position-checks : Problem → List ℕ → List Check
+position-checks p bs = map (λ t. check (meets-constraints p (position p bs t)) (constraint-broken t)) (numbers 0 (p .bound + 1))
 
 -- 10: the formula's value at 0.
 abbrev pub formula-checks : Problem → List ℕ → List Check

@@ -1,13 +1,14 @@
 -- What an accepted witness says of the circuit's endless runs. Assumes nothing.
 use mathlib.Core.Path.{_≡_, sym, _∙_, ap}
 use mathlib.Core.Logic.{_⊎_, inl, inr}
+use mathlib.Core.Bool.{true}
 use mathlib.Core.List.{List}
 use Prim.Native.Nat.{ℕ, zero, suc, _+_, _<_, _≤_}
 use native.Mathlib.Omega.{arith}
 use lib.ListN.{length}
 use Rattle.clauses.specs.Answers.{granted}
 use Rattle.meaning.specs.Problem.{Problem}
-use Rattle.meaning.specs.Runs.{Position, values, next-values, StartsRight, EndlessRun}
+use Rattle.meaning.specs.Runs.{Position, values, next-values, meets-constraints, StartsRight, EndlessRun}
 use Rattle.meaning.specs.Formulas.{formula, Holds}
 use Rattle.meaning.specs.Bounded.{prefix, lasso, after, looped}
 use Rattle.meaning.specs.Witnesses.{witness-length, byte, shape, first-latches, inputs-at, position, rows, Closes, lasso-path, Shows, Witness}
@@ -39,6 +40,7 @@ module _ (p : Problem) (bs : List ℕ) (l : ℕ) where
     latches-there = rw position-first (length-first-latches p bs (w .length-right));
     starts-right = rw position-first (w .starts-right);
     steps-right = lasso-path-steps fits closes;
+    constraints-met = λ t. w .constraints-met (looped l (p .bound) t) (looped-within l (p .bound) fits t);
   }
 
   -- An accepted lasso is an endless run of the circuit on which the formula is true.
@@ -50,15 +52,16 @@ module _ (p : Problem) (bs : List ℕ) (l : ℕ) where
       let shown : Shows p bs (lasso l) = rw is-lasso at (w .shows) in
       (lasso-path-run w fits (shown .0), shown .1)
 
-  -- A lasso that closes, on whose path the formula is true, is accepted.
+  -- A lasso that meets the constraints and closes, on whose path the formula is true, is accepted.
   pub lasso-accepted : length bs ≡ witness-length p → byte bs 0 ≤ p .bound + 1 → ((i : ℕ) → 1 ≤ i → i < length bs → byte bs i ≤ 1)
-      → StartsRight p (first-latches p bs) → shape bs ≡ lasso l → Closes p bs l → Holds p (formula p) (lasso-path p bs l) 0
-      → judge-bytes p bs ≡ granted 0
-  lasso-accepted right start bits starts is-lasso closes holds = accepted-is-witness p bs .1 (record {
+      → StartsRight p (first-latches p bs) → ((t : ℕ) → t ≤ p .bound → meets-constraints p (position p bs t) ≡ true)
+      → shape bs ≡ lasso l → Closes p bs l → Holds p (formula p) (lasso-path p bs l) 0 → judge-bytes p bs ≡ granted 0
+  lasso-accepted right start bits starts met is-lasso closes holds = accepted-is-witness p bs .1 (record {
     length-right = right;
     start-in-range = start;
     bits-in-range = bits;
     starts-right = starts;
+    constraints-met = met;
     shows = rw is-lasso (closes, holds);
   })
 

@@ -4,7 +4,7 @@ use mathlib.Core.Path.{_≡_, refl}
 use mathlib.Core.Logic.{_⊎_, inl, inr, _↔_}
 use mathlib.Core.Bool.{Bool, true, false, cond}
 use mathlib.Core.List.{List, [], _∷_, _++_, map, List·Memᴰ, List·Memᴰ·head, List·Memᴰ·tail, List·Memᴰ·not-nil, List·Memᴰ·append-cases, Memᴰ·of-map}
-use Prim.Native.Nat.{ℕ, zero, suc, _+_, _≤_, _<_}
+use Prim.Native.Nat.{ℕ, zero, suc, _+_, _<_}
 use native.Mathlib.Omega.{arith}
 use borrow.Author.Tests.{lt-ltb}
 use lib.Dec.{ltb}
@@ -16,11 +16,10 @@ use Rattle.meaning.specs.Proper.{Proper}
 use Rattle.meaning.specs.Witnesses.{Witness, all-bits, candidates, at-or-before}
 use Rattle.meaning.specs.Calls.{accepted, witnesses}
 use Rattle.meaning.proofs.Numbers.{numbers-bounds}
-use Rattle.pairing.specs.Bounds.{at-bound}
 use Rattle.pairing.specs.Pairs.{Model}
+use Rattle.pairing.specs.Excluded.{Excluded}
 use Rattle.pairing.proofs.ListedWitnesses.{of-each, after-first, listed-is-witness}
-use Rattle.pairing.proofs.PairsOff.{pairs-off}
-use Rattle.pairing.proofs.AtOrBelow.{satisfiable-at-or-below}
+use Rattle.pairing.proofs.AtOrBelow.{satisfiable-at-bound, excluded-if-unsatisfiable}
 
 -- ════════ Byte order ════════
 
@@ -124,12 +123,10 @@ module _ (p : Problem) (proper : Proper p) where
   -- "none" is "the CNF can't be satisfied".
   pub empty-is-unsatisfiable : (witnesses p ≡ []) ↔ (((a : Assignment) × Model p a) → ⊥)
   empty-is-unsatisfiable = (
-    λ e m. none-if-empty p e _ (pairs-off p proper .to-witness (m .0) (m .1)),
-    λ none. empty-if-none p (λ bs w. none (pairs-off p proper .model-of bs, pairs-off p proper .to-model bs w)),
+    λ e m. let w = satisfiable-at-bound p proper .0 m in none-if-empty p e (w .0) (w .1),
+    λ none. empty-if-none p (λ bs w. none (satisfiable-at-bound p proper .1 (bs, w))),
   )
 
-  -- So no bound from 0 to k has a witness.
-  pub none-at-or-below : witnesses p ≡ [] → (j : ℕ) → j ≤ p .bound → (bs : List ℕ) → Witness (at-bound p j) bs → ⊥
-  none-at-or-below e j l bs w =
-      empty-is-unsatisfiable .0 e
-      (satisfiable-at-or-below p proper .1 (record { at = j; bytes = bs; within = l; witness = w }))
+  -- So it excludes what a refutation does.
+  pub empty-excludes : witnesses p ≡ [] → Excluded p
+  empty-excludes e = excluded-if-unsatisfiable p proper (empty-is-unsatisfiable .0 e)

@@ -1,4 +1,4 @@
--- Items 1 to 6 and 8 of the CNF, each satisfied exactly where its law of the reading holds. Assumes nothing.
+-- Items 1 to 6 and 8 of the CNF, and the constraints, each satisfied exactly where its law of the reading holds. Assumes nothing.
 use mathlib.Core.Path.{_≡_, refl}
 use mathlib.Core.Logic.{_↔_, Iff·rfl, Iff·trans}
 use mathlib.Core.Bool.{Bool, true, false, _&&_}
@@ -10,10 +10,10 @@ use lib.ListN.{length}
 use Rattle.clauses.specs.Lists.{numbers, each}
 use Rattle.clauses.specs.Clauses.{Clause, Assignment, clause-true, Satisfies}
 use Rattle.clauses.proofs.Satisfaction.{satisfies-append, satisfies-first, satisfies-second}
-use Rattle.meaning.specs.Problem.{Problem, latch, gate, latch-variable, gate-variable}
+use Rattle.meaning.specs.Problem.{Problem, latch, gate, constraint, latch-variable, gate-variable}
 use Rattle.meaning.specs.Proper.{Proper}
 use Rattle.meaning.specs.Runs.{literal-value, gate-value, meets-reset}
-use Rattle.meaning.specs.Cnf.{true-literal, next-at, truth-item, gates-item, reset-unit, resets-item, steps-item, closing-item, selectors-item, formula-item}
+use Rattle.meaning.specs.Cnf.{true-literal, next-at, truth-item, gates-item, constraints-item, reset-unit, resets-item, steps-item, closing-item, selectors-item, formula-item}
 use Rattle.meaning.proofs.Numbers.{all-of-each-number, all-of-number, all-of-each-below, all-of-below}
 use Rattle.pairing.specs.ModelLaws.{reading, row}
 use Rattle.pairing.proofs.Forms.{Reads, literal-reads, negated-reads, unit-is, equal-form-is, and-form-is, guarded-form-is, one-false-is}
@@ -75,6 +75,13 @@ module _ (p : Problem) (a : Assignment) where
       and-form-is (circuit-reads p a t (gate-variable p j))
       (literal-at-reads p a t (gate p j .left) (omega (arith, proper .left-below j l)))
       (literal-at-reads p a t (gate p j .right) (omega (arith, proper .right-below j l)))))) numbers-first
+
+  -- "Their unit clauses stand after item 2, by position, then in order."
+  pub constraints-item-is : Proper p → Satisfies a (constraints-item p) ↔ ((t c : ℕ) → t ≤ p .bound → c < length (p .constraints)
+      → literal-value (row p (reading p a) t) (constraint p c) ≡ true)
+  constraints-item-is proper =
+      Iff·trans (each-up-to-is a _ (p .bound) (λ t h. each-below-is a _ (length (p .constraints)) (λ c l.
+      unit-is (literal-at-reads p a t (constraint p c) (proper .constraints-in-range c l))))) numbers-first
 
   reset-unit-is : (r : ℕ) {x : ℤ} {b : Bool} → Reads a x b → Satisfies a (reset-unit r x) ↔ (meets-reset r b ≡ true)
   reset-unit-is zero rx = unit-is (negated-reads rx)

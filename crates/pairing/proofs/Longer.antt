@@ -1,49 +1,31 @@
--- A witness at bound k gives one at bound k + 1, and so at every larger bound. Assumes nothing.
-use mathlib.Core.Path.{_≡_, refl, sym, _∙_, ap, ap₂, subst, fun-ext}
+-- A lasso at bound k gives one at bound k + 1, and so at every larger bound; a prefix does where there are no constraints that stop it. Assumes nothing.
+use mathlib.Core.Path.{_≡_, refl, sym, _∙_, ap, subst, fun-ext}
 use mathlib.Core.Logic.{_⊎_, inl, inr}
-use mathlib.Core.Bool.{Bool, true, false, _&&_}
+use mathlib.Core.Bool.{Bool, true}
 use mathlib.Core.List.{List, _∷_, _++_}
 use Prim.Native.Nat.{ℕ, zero, suc, _+_, _-_, _*_, _<_, _≤_, zero-le, suc-le-suc}
 use native.Mathlib.Nat.{le-refl, le-of-suc-le-suc, not-suc-le-zero, eq-or-lt-of-le, mul-suc, mul-le-mul-left}
 use native.Mathlib.Decide.{decLe}
 use native.Mathlib.Numerals.{add-one, one-add}
 use native.Mathlib.Omega.{arith}
-use borrow.Author.Tests.{leb-true}
-use lib.Dec.{leb}
 use lib.ListN.{length, take, drop, replicate, length-append, length-take, length-drop, length-replicate, getD-replicate, List·getD-append}
 use lib.Seq.{take-append-le, drop-append-le, take-all, drop-at, drop-drop, getD-take, getD-drop, getD-append-add}
 use Rattle.meaning.specs.Problem.{Problem}
-use Rattle.meaning.specs.Runs.{Position, literal-value, values, next-values}
-use Rattle.meaning.specs.Formulas.{Formula, atom, both, either, next, until, release, formula, Holds, True}
-use Rattle.meaning.specs.Bounded.{prefix, looped, until-for, release-for, prefix-value}
-use Rattle.meaning.specs.Witnesses.{witness-length, byte, shape-of, bits, first-latches, inputs-at, position, rows, Closes, lasso-path, Shows, Witness}
+use Rattle.meaning.specs.Runs.{Position, values, next-values, meets-constraints}
+use Rattle.meaning.specs.Formulas.{formula, Holds, True}
+use Rattle.meaning.specs.Bounded.{prefix, lasso, looped}
+use Rattle.meaning.specs.Witnesses.{witness-length, byte, shape-of, shape, bits, first-latches, inputs-at, position, rows, Closes, lasso-path, Shows, Witness}
 use Rattle.pairing.specs.Bounds.{at-bound}
 use Rattle.pairing.proofs.UntilOnLassos.{after-cases, looped-within}
+use Rattle.pairing.proofs.Prefixes.{prefix-value-agrees}
 use Rattle.pairing.proofs.Meaning.{longer-prefix}
 use Rattle.pairing.proofs.Endless.{same-position}
-use Rattle.pairing.proofs.Runs.{position-first, position-inputs, position-next}
-
--- ════════ A prefix looks at its own positions ════════
-
-module _ (k : ℕ) (rows rows′ : ℕ → List Bool) (agree : (t : ℕ) → t ≤ k → rows t ≡ rows′ t) where
-  -- Rows that agree on 0..k give one value of the prefix.
-  pub prefix-value-agrees : (f : Formula) (i : ℕ) → prefix-value k rows f i ≡ prefix-value k rows′ f i
-  prefix-value-agrees (atom x) i = go (leb i k) refl
-    where
-      go : (b : Bool) → leb i k ≡ b → b && literal-value (rows i) x ≡ b && literal-value (rows′ i) x
-      go true e = rw (agree i (leb-true i k e))
-      go false e = refl
-  prefix-value-agrees (both f g) i = rw (prefix-value-agrees f i, prefix-value-agrees g i)
-  prefix-value-agrees (either f g) i = rw (prefix-value-agrees f i, prefix-value-agrees g i)
-  prefix-value-agrees (next f) i = rw (prefix-value-agrees f (suc i))
-  prefix-value-agrees (until f g) i =
-      ap₂ (λ a b. until-for a b (suc k - i) i) (fun-ext (prefix-value-agrees f)) (fun-ext (prefix-value-agrees g))
-  prefix-value-agrees (release f g) i =
-      ap₂ (λ a b. release-for a b (suc k - i) i) (fun-ext (prefix-value-agrees f)) (fun-ext (prefix-value-agrees g))
+use Rattle.pairing.proofs.NodeValues.{StartWithin, start-within}
+use Rattle.pairing.proofs.Runs.{position-first, position-inputs, position-next, unconstrained-meets}
 
 -- ════════ One position more ════════
 
--- The bound has no part in the circuit or in the formula.
+-- The bound has no part in the circuit, in the constraints or in the formula.
 module _ (k : ℕ) (p : Problem) where
   same-values : (x : Position) → values (at-bound p k) x ≡ values p x
   unfolding values
@@ -52,6 +34,10 @@ module _ (k : ℕ) (p : Problem) where
   same-next : (x : Position) → next-values (at-bound p k) x ≡ next-values p x
   unfolding next-values values
   same-next x = refl
+
+  same-constraints : (x : Position) → meets-constraints (at-bound p k) x ≡ meets-constraints p x
+  unfolding meets-constraints values
+  same-constraints x = refl
 
   same-formula : formula (at-bound p k) ≡ formula p
   unfolding formula
@@ -124,30 +110,40 @@ module _ (p : Problem) (bs : List ℕ) (right : length bs ≡ witness-length p) 
           let there : i ≡ length (drop 1 bs) + (i - length (drop 1 bs)) = omega arith in
           rw (there, getD-append-add) (new (i - length (drop 1 bs)) (omega (arith, length-append (drop 1 bs) more)))
 
-  -- Where the more bytes are inputs and the formula is shown, the longer bytes are a witness.
-  longer-from : Witness p bs → b ≤ p .bound + 2 → ((i : ℕ) → i < length more → byte more i ≤ 1) → Shows q cs (shape-of b)
-      → (ds : List ℕ) × Witness q ds
-  longer-from w start new shown = (
-    cs,
-    record {
-      length-right = longer-length;
-      start-in-range = omega arith;
-      bits-in-range = longer-bits (w .bits-in-range) new;
-      starts-right = rw longer-first-latches (w .starts-right);
-      shows = shown;
-    },
-  )
+  longer-meets : ((t : ℕ) → t ≤ p .bound → meets-constraints p (position p bs t) ≡ true)
+      → meets-constraints p (position q cs (suc (p .bound))) ≡ true
+      → (t : ℕ) → t ≤ suc (p .bound) → meets-constraints q (position q cs t) ≡ true
+  longer-meets old last t h = same-constraints (suc (p .bound)) p (position q cs t) ∙ go (eq-or-lt-of-le h)
+    where
+      go : (t ≡ suc (p .bound)) ⊎ (t < suc (p .bound)) → meets-constraints p (position q cs t) ≡ true
+      go (inl e) = rw e last
+      go (inr l) = let h : t ≤ p .bound = le-of-suc-le-suc l in ap (meets-constraints p) (longer-position t h) ∙ old t h
+
+  -- Where the more bytes are inputs, the last position meets the constraints and the formula is shown, the longer bytes are a witness.
+  longer-from : Witness p bs → b ≤ p .bound + 2 → ((i : ℕ) → i < length more → byte more i ≤ 1)
+      → meets-constraints p (position q cs (suc (p .bound))) ≡ true → Shows q cs (shape-of b) → Witness q cs
+  longer-from w start new last shown = record {
+    length-right = longer-length;
+    start-in-range = omega arith;
+    bits-in-range = longer-bits (w .bits-in-range) new;
+    starts-right = rw longer-first-latches (w .starts-right);
+    constraints-met = longer-meets (w .constraints-met) last;
+    shows = shown;
+  }
 
 -- ════════ A prefix, longer ════════
 
 module _ (p : Problem) (bs : List ℕ) (w : Witness p bs) where
-  -- A prefix goes on with any inputs.
-  longer-prefix-witness : Shows p bs prefix → (cs : List ℕ) × Witness (at-bound p (suc (p .bound))) cs
-  longer-prefix-witness shown =
-      longer-from p bs (w .length-right) 0 zeros fits w zero-le
-      (λ i h. rw (getD-replicate {A = ℕ} (p .inputs) i 0 0 (omega (arith, fits))) zero-le)
-      (longer-prefix (p .bound) (rows q′ cs′) (formula q′) 0
-      (prefix-value-agrees (p .bound) (rows q′ cs′) (rows p bs) agree (formula q′) 0 ∙ rw same-formula shown))
+  -- Without constraints a prefix goes on with any inputs.
+  longer-prefix-witness : length (p .constraints) ≡ 0 → Shows p bs prefix → (cs : List ℕ) × Witness (at-bound p (suc (p .bound))) cs
+  longer-prefix-witness none shown = (
+    cs′,
+    longer-from p bs (w .length-right) 0 zeros fits w zero-le
+        (λ i h. rw (getD-replicate {A = ℕ} (p .inputs) i 0 0 (omega (arith, fits))) zero-le)
+        (unconstrained-meets p none _)
+        (longer-prefix (p .bound) (rows q′ cs′) (formula q′) 0
+        (prefix-value-agrees (p .bound) (rows q′ cs′) (rows p bs) agree (formula q′) 0 ∙ rw same-formula shown)),
+  )
     where
       zeros : List ℕ
       zeros = replicate (p .inputs) 0
@@ -238,9 +234,10 @@ module _ (p : Problem) (bs : List ℕ) (w : Witness p bs) (l : ℕ) (fits : l �
       go i j (inl e) h = rw e (to-k j h)
       go i j (inr e) h = rw (e .0, e .1) at-last
 
-  longer-lasso-witness : Holds p (formula p) (lasso-path p bs l) 0 → (cs : List ℕ) × Witness (at-bound p (suc (p .bound))) cs
+  longer-lasso-witness : Holds p (formula p) (lasso-path p bs l) 0 → Witness lasso-longer lasso-bytes
   longer-lasso-witness holds =
-      longer-from p bs (w .length-right) (suc (suc l)) (bytes-at p bs l) again-length w (omega arith) again-bits (
+      longer-from p bs (w .length-right) (suc (suc l)) (bytes-at p bs l) again-length w (omega arith) again-bits
+      (ap (meets-constraints p) at-last ∙ w .constraints-met l fits) (
         longer-closes,
         rw same-formula (subst (λ (path : ℕ → List Bool). True (formula p) path 0) (fun-ext same-row) holds),
       )
@@ -250,20 +247,44 @@ module _ (p : Problem) (bs : List ℕ) (w : Witness p bs) (l : ℕ) (fits : l �
 
 -- ════════ Larger bounds ════════
 
--- A witness at bound k gives one at k + 1.
-pub longer-witness : (p : Problem) (bs : List ℕ) → Witness p bs → (cs : List ℕ) × Witness (at-bound p (suc (p .bound))) cs
-longer-witness p bs w = go (byte bs 0) (w .start-in-range) (w .shows)
-  where
-    go : (b : ℕ) → b ≤ p .bound + 1 → Shows p bs (shape-of b) → (cs : List ℕ) × Witness (at-bound p (suc (p .bound))) cs
-    go zero h shown = longer-prefix-witness p bs w shown
-    go (suc l) h shown = longer-lasso-witness p bs w l (omega arith) (shown .0) (shown .1)
+-- A witness that is a lasso.
+abbrev LassoWitness : Problem → List ℕ → Type 0
+LassoWitness p bs = (l : ℕ) × Witness p bs × (shape bs ≡ lasso l)
+
+-- What each bound hands on to the next, every larger bound has.
+module _ (p : Problem) (At : Problem → List ℕ → Type 0)
+    (longer : (k : ℕ) (bs : List ℕ) → At (at-bound p k) bs → (cs : List ℕ) × At (at-bound p (suc k)) cs) where
+  at-larger : (j k : ℕ) → j ≤ k → (bs : List ℕ) → At (at-bound p j) bs → (cs : List ℕ) × At (at-bound p k) cs
+  at-larger j zero h bs w = (bs, let same : j ≡ 0 = omega arith in rw same at w)
+  at-larger j (suc k) h bs w = go (eq-or-lt-of-le h) (λ q. at-larger j k q bs w)
+    where
+      go : (j ≡ suc k) ⊎ (j < suc k) → (j ≤ k → (cs : List ℕ) × At (at-bound p k) cs) → (cs : List ℕ) × At (at-bound p (suc k)) cs
+      go (inl e) earlier = (bs, rw e at w)
+      go (inr q) earlier = let v = earlier (le-of-suc-le-suc q) in longer k (v .0) (v .1)
+
+-- A lasso at bound k gives one at k + 1: the step from k to k + 1 copies position l, which meets the constraints.
+longer-lasso : (p : Problem) (bs : List ℕ) → LassoWitness p bs → (cs : List ℕ) × LassoWitness (at-bound p (suc (p .bound))) cs
+longer-lasso p bs (l, w, is-lasso) =
+    let fits : StartWithin (lasso l) p = rw is-lasso at (start-within p (byte bs 0) (w .start-in-range)) in
+    let shown : Shows p bs (lasso l) = rw is-lasso at (w .shows) in
+    (lasso-bytes p bs w l fits (shown .0), (suc l, longer-lasso-witness p bs w l fits (shown .0) (shown .1), refl))
 
 -- And so at every larger bound.
-pub witness-at-larger : (p : Problem) (j k : ℕ) → j ≤ k → (bs : List ℕ) → Witness (at-bound p j) bs
-    → (cs : List ℕ) × Witness (at-bound p k) cs
-witness-at-larger p j zero h bs w = (bs, let same : j ≡ 0 = omega arith in rw same at w)
-witness-at-larger p j (suc k) h bs w = go (eq-or-lt-of-le h) (λ q. witness-at-larger p j k q bs w)
+pub lasso-at-larger : (p : Problem) (j k : ℕ) → j ≤ k → (bs : List ℕ) → Witness (at-bound p j) bs → (l : ℕ) → shape bs ≡ lasso l
+    → (cs : List ℕ) × (m : ℕ) × Witness (at-bound p k) cs × (shape cs ≡ lasso m)
+lasso-at-larger p j k h bs w l is-lasso =
+    let v = at-larger p LassoWitness (λ i. longer-lasso (at-bound p i)) j k h bs (l, w, is-lasso) in
+    (v .0, v .1 .0, v .1 .1, v .1 .2)
+
+-- Without constraints any witness at bound k gives one at k + 1.
+longer-witness : (p : Problem) → length (p .constraints) ≡ 0 → (bs : List ℕ) → Witness p bs → (cs : List ℕ) × Witness (at-bound p (suc (p .bound))) cs
+longer-witness p none bs w = go (byte bs 0) refl (w .shows)
   where
-    go : (j ≡ suc k) ⊎ (j < suc k) → (j ≤ k → (cs : List ℕ) × Witness (at-bound p k) cs) → (cs : List ℕ) × Witness (at-bound p (suc k)) cs
-    go (inl e) earlier = (bs, rw e at w)
-    go (inr q) earlier = let v = earlier (le-of-suc-le-suc q) in longer-witness (at-bound p k) (v .0) (v .1)
+    go : (b : ℕ) → byte bs 0 ≡ b → Shows p bs (shape-of b) → (cs : List ℕ) × Witness (at-bound p (suc (p .bound))) cs
+    go zero e shown = longer-prefix-witness p bs w none shown
+    go (suc l) e shown = let v = longer-lasso p bs (l, w, ap shape-of e) in (v .0, v .1 .1)
+
+-- And so at every larger bound.
+pub witness-at-larger : (p : Problem) → length (p .constraints) ≡ 0 → (j k : ℕ) → j ≤ k → (bs : List ℕ) → Witness (at-bound p j) bs
+    → (cs : List ℕ) × Witness (at-bound p k) cs
+witness-at-larger p none = at-larger p Witness (λ k. longer-witness (at-bound p k) none)

@@ -1,5 +1,6 @@
--- The bounded meaning on a prefix: past k it is false, U and R unfold as now-and-next and look at 0..k, G is never true. Assumes nothing.
-use mathlib.Core.Path.{_≡_, refl, sym, _∙_, ap, subst}
+-- The bounded meaning on a prefix: past k it is false, U and R unfold as now-and-next and look at 0..k, G is never true; only
+-- the rows of 0..k count. Assumes nothing.
+use mathlib.Core.Path.{_≡_, refl, sym, _∙_, ap, ap₂, subst, fun-ext}
 use mathlib.Core.Logic.{_⊎_, inl, inr, _↔_}
 use mathlib.Core.Bool.{Bool, true, false, _&&_, _||_, and-or-distrib-left}
 use mathlib.Core.List.{List, []}
@@ -7,7 +8,7 @@ use Prim.Native.Nat.{ℕ, zero, suc, _+_, _-_, _<_, _≤_}
 use native.Mathlib.Nat.{le-refl, eq-or-lt-of-le}
 use native.Mathlib.Decide.{decLe}
 use native.Mathlib.Omega.{arith}
-use borrow.Author.Tests.{le-leb, lt-leb}
+use borrow.Author.Tests.{leb-true, le-leb, lt-leb}
 use lib.Dec.{leb}
 use lib.ListN.{length, getD}
 use Rattle.clauses.proofs.Satisfaction.{both-true, first-true, second-true, not-both, false-if-not-true}
@@ -151,3 +152,21 @@ G-never-shown p proper a is-G bs w is-prefix =
     let G-is : formula p ≡ release (atom 0) (tree p a) =
     formula-is p ∙ tree-unfolds (children-earlier proper) (length (p .nodes) - 1) (omega arith) ∙ ap (tree-of (trees-after [] (p .nodes))) is-G in
     not-both (rw G-is at shown) (G-never-of-run p bs (tree p a) 0)
+
+-- ════════ A prefix looks at its own positions ════════
+
+module _ (k : ℕ) (rows rows′ : ℕ → List Bool) (agree : (t : ℕ) → t ≤ k → rows t ≡ rows′ t) where
+  -- Rows that agree on 0..k give one value of the prefix.
+  pub prefix-value-agrees : (f : Formula) (i : ℕ) → prefix-value k rows f i ≡ prefix-value k rows′ f i
+  prefix-value-agrees (atom x) i = go (leb i k) refl
+    where
+      go : (b : Bool) → leb i k ≡ b → b && literal-value (rows i) x ≡ b && literal-value (rows′ i) x
+      go true e = rw (agree i (leb-true i k e))
+      go false e = refl
+  prefix-value-agrees (both f g) i = rw (prefix-value-agrees f i, prefix-value-agrees g i)
+  prefix-value-agrees (either f g) i = rw (prefix-value-agrees f i, prefix-value-agrees g i)
+  prefix-value-agrees (next f) i = rw (prefix-value-agrees f (suc i))
+  prefix-value-agrees (until f g) i =
+      ap₂ (λ a b. until-for a b (suc k - i) i) (fun-ext (prefix-value-agrees f)) (fun-ext (prefix-value-agrees g))
+  prefix-value-agrees (release f g) i =
+      ap₂ (λ a b. release-for a b (suc k - i) i) (fun-ext (prefix-value-agrees f)) (fun-ext (prefix-value-agrees g))

@@ -1,4 +1,4 @@
--- Where no witness is at or below the bound, the judge of the problem's refutations accepts some words. Assumes nothing.
+-- Where no witness is at the bound, the judge of the problem's refutations accepts some words. Assumes nothing.
 use mathlib.Core.Path.{_≡_, refl, _∙_}
 use mathlib.Core.Bool.{true}
 use mathlib.Core.List.{List}
@@ -17,6 +17,7 @@ use Rattle.clauses.proofs.Answers.{passing, first-failing-passed, clauses-judge
 use Rattle.clauses.proofs.WordSizes.{words-below}
 use Rattle.clauses.proofs.RefutableWords.{areas-pass, refutation-words, steps-yes, words-pass, refutation-fits}
 use Rattle.meaning.specs.Problem.{problem}
+use Rattle.meaning.specs.Witnesses.{Witness}
 use Rattle.meaning.specs.Cnf.{cnf, cnf-words, variables}
 use Rattle.meaning.specs.Calls.{WellFormed, room-checks, judge-refutation}
 use Rattle.meaning.proofs.Check.{checked-if-well-formed, proper-if-well-formed}
@@ -24,7 +25,7 @@ use Rattle.meaning.proofs.Calls.{refutation-by-clauses}
 use Rattle.meaning.proofs.Ranges.{variables-fit}
 use Rattle.pairing.specs.Pairs.{WitnessAtOrBelow}
 use Rattle.pairing.specs.Refutable.{AcceptedRefutation}
-use Rattle.pairing.proofs.AtOrBelow.{problem-refutable}
+use Rattle.pairing.proofs.AtOrBelow.{problem-refutable, none-at-bound}
 
 module _ (version : ℕ) (ws : List ℕ) (formed : WellFormed version ws) where
   -- Where 6, 11 and 12 pass, and so do the steps.
@@ -42,7 +43,7 @@ module _ (version : ℕ) (ws : List ℕ) (formed : WellFormed version ws) where
       ∙ first-failing-passed (area-checks (variables (problem version ws)) (cnf (problem version ws)) (steps-of refutation) m n) _ in-areas
       ∙ in-steps
 
-  pub problem-refutable-words : (WitnessAtOrBelow (problem version ws) → ⊥) → AcceptedRefutation version ws
+  pub problem-refutable-words : ((bs : List ℕ) → Witness (problem version ws) bs → ⊥) → AcceptedRefutation version ws
   problem-refutable-words none =
       let r = problem-refutable (problem version ws) (proper-if-well-formed version ws formed) none in
       record {
@@ -52,6 +53,10 @@ module _ (version : ℕ) (ws : List ℕ) (formed : WellFormed version ws) where
             (areas-pass (variables (problem version ws)) (cnf (problem version ws)) (steps-of (refutation-words r)) m n p q) (steps-yes r);
         words-fit = refutation-fits r;
       }
+
+  -- So it does where none is at or below it.
+  pub refutable-words-at-or-below : (WitnessAtOrBelow (problem version ws) → ⊥) → AcceptedRefutation version ws
+  refutable-words-at-or-below none = problem-refutable-words (none-at-bound (problem version ws) none)
 
   -- A problem's variables are few, so where its clauses and the steps together fit a signed word, the size of each word does.
   pub refutation-below : (a : AcceptedRefutation version ws) → length (cnf (problem version ws)) + length (steps-of (a .words)) < 2 ^ 31

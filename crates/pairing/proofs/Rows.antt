@@ -8,14 +8,14 @@ use native.Mathlib.Omega.{arith}
 use lib.ListN.{length, getD}
 use lib.Seq.{ext-getD}
 use Rattle.clauses.specs.Lists.{numbers}
-use Rattle.meaning.specs.Problem.{Problem, W, latch-variable, gate-variable, latch, gate, Latch}
+use Rattle.meaning.specs.Problem.{Problem, W, latch-variable, gate-variable, latch, gate, constraint, Latch}
 use Rattle.meaning.specs.Proper.{Proper}
-use Rattle.meaning.specs.Runs.{Position, literal-value, gate-value, meets-reset, values, next-values, StartsRight}
+use Rattle.meaning.specs.Runs.{Position, literal-value, gate-value, meets-reset, values, next-values, meets-constraints, StartsRight}
 use Rattle.meaning.specs.Witnesses.{witness-length, first-latches, inputs-at, position, rows, Closes}
 use Rattle.meaning.proofs.Numbers.{length-map-numbers, getD-map-numbers, getD-map-within}
 use Rattle.pairing.specs.ModelLaws.{Reading, row}
 use Rattle.pairing.specs.Bytes.{bytes-of-reading}
-use Rattle.pairing.proofs.Runs.{position-first, position-inputs, position-next, length-inputs-at, length-latches}
+use Rattle.pairing.proofs.Runs.{position-first, position-inputs, position-next, length-inputs-at, length-latches, constraints-are}
 use Rattle.pairing.proofs.Gates.{values-length, values-input, values-latch, values-gate, values-unique}
 use Rattle.pairing.proofs.Bytes.{bytes-length, bytes-latches, bytes-inputs}
 
@@ -107,6 +107,10 @@ module _ (p : Problem) (bs : List ℕ) (right : length bs ≡ witness-length p) 
       let here : t ≤ p .bound = omega arith in
       rw (add-one t, row-of-rows)
       (rows-latches (suc t) i h q ∙ rw position-next (next-value p (position p bs t) i q))
+
+  pub rows-constraint-law : ((t : ℕ) → t ≤ p .bound → meets-constraints p (position p bs t) ≡ true)
+      → (t c : ℕ) → t ≤ p .bound → c < length (p .constraints) → literal-value (row p r t) (constraint p c) ≡ true
+  rows-constraint-law met t c h q = rw row-of-rows (constraints-are p (position p bs t) .0 (met t h) c q)
 
   pub rows-reset-law : StartsRight p (first-latches p bs) → (i : ℕ) → i < length (p .latches)
       → meets-reset (latch p i .reset) (r .circuit 0 (latch-variable p i)) ≡ true

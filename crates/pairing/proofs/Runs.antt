@@ -1,14 +1,16 @@
--- The run that a witness shows: its inputs, first latches and next latches, and their lengths. Assumes nothing.
+-- The run that a witness shows: its inputs, first latches and next latches, and their lengths; the constraints, one by one. Assumes nothing.
 use mathlib.Core.Path.{_≡_, refl, _∙_, ap}
-use mathlib.Core.Bool.{Bool}
+use mathlib.Core.Logic.{_↔_}
+use mathlib.Core.Bool.{Bool, true}
 use mathlib.Core.List.{List, [], _∷_, map}
 use Prim.Native.Nat.{ℕ, zero, suc, _+_, _<_, _≤_}
 use native.Mathlib.Nat.{le-of-suc-le-suc, not-suc-le-zero, mul-le-mul-left, mul-suc, zero-add}
 use native.Mathlib.Omega.{arith}
 use lib.ListN.{length, getD, length-map, length-take, length-drop}
 use Rattle.clauses.specs.Lists.{numbers}
-use Rattle.meaning.specs.Problem.{Problem}
-use Rattle.meaning.specs.Runs.{Position, next-values, run-from}
+use Rattle.clauses.proofs.Satisfaction.{all-of-at, all-of-if-at}
+use Rattle.meaning.specs.Problem.{Problem, constraint}
+use Rattle.meaning.specs.Runs.{Position, literal-value, values, next-values, meets-constraints, run-from}
 use Rattle.meaning.specs.Witnesses.{witness-length, first-latches, inputs-at, run, position}
 use Rattle.meaning.proofs.Numbers.{length-numbers, getD-map-numbers-from}
 
@@ -70,3 +72,16 @@ module _ (p : Problem) (bs : List ℕ) (right : length bs ≡ witness-length p) 
   pub length-latches : (t : ℕ) → t ≤ p .bound → length (position p bs t .latches) ≡ length (p .latches)
   length-latches zero h = rw position-first length-first-latches
   length-latches (suc t) h = rw (position-next p bs t h) (length-next-values p _)
+
+-- ════════ Constraints ════════
+
+-- A position meets the constraints exactly if each is true there.
+pub constraints-are : (p : Problem) (x : Position)
+    → (meets-constraints p x ≡ true) ↔ ((c : ℕ) → c < length (p .constraints) → literal-value (values p x) (constraint p c) ≡ true)
+unfolding meets-constraints
+constraints-are p x =
+    (λ e c h. all-of-at (literal-value (values p x)) (p .constraints) c 1 e h, λ h. all-of-if-at (literal-value (values p x)) (p .constraints) 1 h)
+
+-- Where there are none, every position does.
+pub unconstrained-meets : (p : Problem) → length (p .constraints) ≡ 0 → (x : Position) → meets-constraints p x ≡ true
+unconstrained-meets p none x = constraints-are p x .1 (λ c h. absurd (omega arith))

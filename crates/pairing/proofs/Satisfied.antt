@@ -6,7 +6,7 @@ use Rattle.meaning.specs.Proper.{Proper}
 use Rattle.meaning.specs.Cnf.{cnf}
 use Rattle.meaning.proofs.ItemByItem.{_and_, satisfied-by-items}
 use Rattle.pairing.specs.ModelLaws.{ModelLaws, reading}
-use Rattle.pairing.proofs.ItemsAsLaws.{truth-item-is, gates-item-is, resets-item-is, steps-item-is, closing-item-is, selectors-item-is, formula-item-is}
+use Rattle.pairing.proofs.ItemsAsLaws.{truth-item-is, gates-item-is, constraints-item-is, resets-item-is, steps-item-is, closing-item-is, selectors-item-is, formula-item-is}
 use Rattle.pairing.proofs.NodeItem.{nodes-item-is}
 
 module _ (p : Problem) (proper : Proper p) (a : Assignment) where
@@ -14,6 +14,7 @@ module _ (p : Problem) (proper : Proper p) (a : Assignment) where
   laws-if-satisfied sat =
       let (truth, later) = satisfied-by-items p a .0 sat in
       let (gates, later) = later in
+      let (constraints, later) = later in
       let (resets, later) = later in
       let (steps, later) = later in
       let (closing, later) = later in
@@ -25,6 +26,7 @@ module _ (p : Problem) (proper : Proper p) (a : Assignment) where
       record {
         truth-law = truth-law;
         gate-law = gates-item-is p a proper .0 gates;
+        constraint-law = constraints-item-is p a proper .0 constraints;
         reset-law = resets-item-is p a .0 resets;
         step-law = steps-item-is p a proper .0 steps;
         closing-law = closing-item-is p a proper .0 closing;
@@ -41,6 +43,7 @@ module _ (p : Problem) (proper : Proper p) (a : Assignment) where
       satisfied-by-items p a .1 (
       truth-item-is p a .1 (m .truth-law)
       and gates-item-is p a proper .1 (m .gate-law)
+      and constraints-item-is p a proper .1 (m .constraint-law)
       and resets-item-is p a .1 (m .reset-law)
       and steps-item-is p a proper .1 (m .step-law)
       and closing-item-is p a proper .1 (m .closing-law)

@@ -11,7 +11,7 @@ use Rattle.clauses.specs.Lists.{numbers, all-of}
 use Rattle.clauses.proofs.Satisfaction.{not-both}
 use Rattle.clauses.proofs.Answers.{passing}
 use Rattle.meaning.specs.Problem.{Problem}
-use Rattle.meaning.specs.Runs.{Position, values, next-values, run-from}
+use Rattle.meaning.specs.Runs.{Position, values, next-values, meets-constraints, run-from}
 use Rattle.meaning.specs.Formulas.{formula}
 use Rattle.meaning.specs.Bounded.{Shape, prefix, lasso}
 use Rattle.meaning.specs.Witnesses.{byte, bits, first-latches, inputs-at, run, position, rows, Closes, Shows, Witness, loop-checks}
@@ -51,6 +51,7 @@ as-lasso p b bs w shown l fits closes = record {
   start-in-range = omega arith;
   bits-in-range = bits-too;
   starts-right = w .starts-right;
+  constraints-met = λ t h. ap (meets-constraints p) (sym (same-position p b (suc l) bs t)) ∙ w .constraints-met t h;
   shows = (
     closes-too p b (suc l) bs l closes,
     prefix-value-true (p .bound) (rows p (b ∷ bs)) _

@@ -8,9 +8,9 @@ use borrow.Author.Tests.{eqb-true}
 use lib.ListN.{length, getD}
 use lib.Seq.{ext-getD}
 use Rattle.clauses.proofs.Satisfaction.{eqb-self}
-use Rattle.meaning.specs.Problem.{Problem, W, latch-variable, latch}
+use Rattle.meaning.specs.Problem.{Problem, W, latch-variable, latch, constraint}
 use Rattle.meaning.specs.Proper.{Proper}
-use Rattle.meaning.specs.Runs.{literal-value, next-values, StartsRight}
+use Rattle.meaning.specs.Runs.{literal-value, next-values, meets-constraints, StartsRight}
 use Rattle.meaning.specs.Formulas.{formula}
 use Rattle.meaning.specs.Bounded.{Shape, prefix, lasso}
 use Rattle.meaning.specs.LassoValue.{bounded-value}
@@ -21,14 +21,14 @@ use Rattle.pairing.specs.ModelLaws.{Reading, ModelLaws, row}
 use Rattle.pairing.specs.Layout.{Agree}
 use Rattle.pairing.specs.Bytes.{chosen-of, bytes-of-reading}
 use Rattle.pairing.proofs.Meaning.{lasso-value}
-use Rattle.pairing.proofs.Runs.{length-next-values, length-latches}
+use Rattle.pairing.proofs.Runs.{length-next-values, length-latches, constraints-are}
 use Rattle.pairing.proofs.Witnesses.{value-if-shows}
 use Rattle.pairing.proofs.Trees.{children-earlier, formula-is}
 use Rattle.pairing.proofs.Gates.{values-zero-false}
 use Rattle.pairing.proofs.NodeValues.{StartWithin, P-of, Q-of, E-of, node-laws, node-laws-determine, start-within}
 use Rattle.pairing.proofs.SameNodes.{node-laws-same}
 use Rattle.pairing.proofs.Bytes.{bytes-length, bytes-start, bytes-bits, bytes-latches}
-use Rattle.pairing.proofs.Rows.{next-value, row-at, rows-of-model, row-of-rows, rows-latches, rows-gate-law, rows-step-law, rows-reset-law, rows-closing-law}
+use Rattle.pairing.proofs.Rows.{next-value, row-at, rows-of-model, row-of-rows, rows-latches, rows-gate-law, rows-constraint-law, rows-step-law, rows-reset-law, rows-closing-law}
 use Rattle.pairing.proofs.Choices.{chosen-once, bytes-choose, end-by-shape, end-at-chosen, end-closed}
 
 -- The circuit by the run, the selectors by the shape, the nodes by the bounded meaning.
@@ -81,6 +81,7 @@ module _ (p : Problem) (proper : Proper p) (bs : List ℕ) (w : Witness p bs) (r
       record {
         truth-law = same .truth;
         gate-law = rows-gate-law p bs (w .length-right) r same-circuit proper;
+        constraint-law = rows-constraint-law p bs (w .length-right) r same-circuit (w .constraints-met);
         reset-law = rows-reset-law p bs (w .length-right) r same-circuit (w .starts-right);
         step-law = rows-step-law p bs (w .length-right) r same-circuit;
         closing-law = λ l i h q c.
@@ -132,11 +133,16 @@ module _ (p : Problem) (proper : Proper p) (r : Reading) (laws : ModelLaws p r) 
     E = λ n l. nodes-by-tables n 0 l zero-le .2;
   }
 
-  -- The first latches meet their resets, a chosen loop closes, and the formula is true at 0.
+  -- The first latches meet their resets, each position the constraints, a chosen loop closes, and the formula is true at 0.
   starts : StartsRight p (first-latches p (bytes-of-reading p r))
   starts i h =
       rw (bytes-latches p r, getD-map-numbers (λ j. r .circuit 0 (latch-variable p j)) (length (p .latches)) i false h)
       (laws .reset-law i h)
+
+  met : (t : ℕ) → t ≤ p .bound → meets-constraints p (position p (bytes-of-reading p r) t) ≡ true
+  met t h =
+      constraints-are p (position p (bytes-of-reading p r) t) .1 (λ c q.
+      ap (λ (vs : List Bool). literal-value vs (constraint p c)) (sym (same-rows t h)) ∙ laws .constraint-law t c h q)
 
   closes : (l : ℕ) → l ≤ p .bound → r .chosen l ≡ true → Closes p (bytes-of-reading p r) l
   closes l h c =
@@ -170,6 +176,7 @@ module _ (p : Problem) (proper : Proper p) (r : Reading) (laws : ModelLaws p r) 
     start-in-range = bytes-start p r;
     bits-in-range = bytes-bits p r;
     starts-right = starts;
+    constraints-met = met;
     shows = shows-by-shape (shape (bytes-of-reading p r)) (start-within p (byte (bytes-of-reading p r) 0) (bytes-start p r))
         (model-agrees .chosen) formula-true;
   }

@@ -14,13 +14,13 @@ use Rattle.clauses.specs.Lists.{numbers, numbered, all-of, joined}
 use Rattle.clauses.specs.Answers.{Check, check, first-failing, granted}
 use Rattle.clauses.proofs.Satisfaction.{both-true, first-true, second-true, eqb-self, all-of-numbered, all-of-map}
 use Rattle.clauses.proofs.Answers.{passing, refusing, first-failing-passed, first-failing-joined, all-pass-if-granted}
-use Rattle.meaning.specs.Answers.{bad-witness, against-reset, open-loop}
+use Rattle.meaning.specs.Answers.{bad-witness, against-reset, open-loop, constraint-broken}
 use Rattle.meaning.specs.Problem.{Problem, latch}
-use Rattle.meaning.specs.Runs.{next-values, meets-reset, StartsRight}
+use Rattle.meaning.specs.Runs.{next-values, meets-reset, meets-constraints, StartsRight}
 use Rattle.meaning.specs.Formulas.{formula}
 use Rattle.meaning.specs.Bounded.{Shape, prefix, lasso}
 use Rattle.meaning.specs.LassoValue.{bounded-value}
-use Rattle.meaning.specs.Witnesses.{witness-length, byte, shape, first-latches, position, rows, Closes, Shows, Witness, byte-limit, byte-checks, reset-checks, loop-checks}
+use Rattle.meaning.specs.Witnesses.{witness-length, byte, shape, first-latches, position, rows, Closes, Shows, Witness, byte-limit, byte-checks, reset-checks, loop-checks, position-checks}
 use Rattle.meaning.specs.Calls.{witness-parts, judge-bytes}
 use Rattle.meaning.proofs.ItemByItem.{_and_, all-of-joined}
 use Rattle.meaning.proofs.Numbers.{all-of-numbers, all-of-numbers-if}
@@ -36,6 +36,7 @@ record ChecksPassed (p : Problem) (bs : List ℕ) : Type 0 where
   bytes-pass : all-of passing (byte-checks p bs) ≡ true
   resets-pass : all-of passing (reset-checks p bs) ≡ true
   loop-passes : all-of passing (loop-checks p bs (shape bs)) ≡ true
+  positions-pass : all-of passing (position-checks p bs) ≡ true
   formula-passes : bounded-value (shape bs) (p .bound) (rows p bs) (formula p) 0 ≡ true
 
 each-refusing : (c : ℕ → Check) (is : List ℕ) → ((i : ℕ) → refusing (c i) ≡ true) → all-of refusing (map c is) ≡ true
@@ -53,6 +54,9 @@ module _ (p : Problem) (bs : List ℕ) where
   loop-checks-refusing prefix = refl
   loop-checks-refusing (lasso l) = each-refusing _ (numbers 0 (length (p .latches))) (λ i. refl)
 
+  position-checks-refusing : all-of refusing (position-checks p bs) ≡ true
+  position-checks-refusing = each-refusing _ (numbers 0 (p .bound + 1)) (λ t. refl)
+
   -- The judge's checks in one list.
   abbrev pub all-checks : List Check
   all-checks = joined (witness-parts p bs)
@@ -64,7 +68,7 @@ module _ (p : Problem) (bs : List ℕ) where
   pub all-checks-refusing : all-of refusing all-checks ≡ true
   all-checks-refusing =
       all-of-joined refusing (witness-parts p bs) .1
-      (byte-checks-refusing and reset-checks-refusing and loop-checks-refusing (shape bs) and refl and tt)
+      (byte-checks-refusing and reset-checks-refusing and loop-checks-refusing (shape bs) and position-checks-refusing and refl and tt)
 
   passed-if-granted : judge-bytes p bs ≡ granted 0 → ChecksPassed p bs
   passed-if-granted e =
@@ -73,7 +77,8 @@ module _ (p : Problem) (bs : List ℕ) where
         bytes-pass = pass .0;
         resets-pass = pass .1 .0;
         loop-passes = pass .1 .1 .0;
-        formula-passes = first-true _ true (pass .1 .1 .1 .0);
+        positions-pass = pass .1 .1 .1 .0;
+        formula-passes = first-true _ true (pass .1 .1 .1 .1 .0);
       }
 
   granted-if-passed : ChecksPassed p bs → judge-bytes p bs ≡ granted 0
@@ -81,7 +86,7 @@ module _ (p : Problem) (bs : List ℕ) where
       judged-by-all
       ∙ first-failing-passed all-checks (granted 0)
       (all-of-joined passing (witness-parts p bs) .1
-      (q .bytes-pass and q .resets-pass and q .loop-passes and both-true (q .formula-passes) refl and tt))
+      (q .bytes-pass and q .resets-pass and q .loop-passes and q .positions-pass and both-true (q .formula-passes) refl and tt))
 
 -- ════════ The bytes ════════
 
@@ -170,6 +175,23 @@ module _ (p : Problem) (bs : List ℕ) where
   value-if-shows prefix fits h = h
   value-if-shows (lasso l) fits h = lasso-value l (p .bound) fits (rows p bs) (formula p) 0 .1 (h .1)
 
+-- ════════ The constraints ════════
+
+module _ (p : Problem) (bs : List ℕ) where
+  abbrev position-test : ℕ → Bool
+  position-test t = meets-constraints p (position p bs t)
+
+  abbrev position-check : ℕ → Check
+  position-check t = check (position-test t) (constraint-broken t)
+
+  met-if-passes : all-of passing (position-checks p bs) ≡ true → (t : ℕ) → t ≤ p .bound → meets-constraints p (position p bs t) ≡ true
+  met-if-passes e t h =
+      all-of-numbers position-test (p .bound + 1) (sym (all-of-map passing position-check (numbers 0 (p .bound + 1))) ∙ e) t (omega arith)
+
+  passes-if-met : ((t : ℕ) → t ≤ p .bound → meets-constraints p (position p bs t) ≡ true) → all-of passing (position-checks p bs) ≡ true
+  passes-if-met h =
+      all-of-map passing position-check (numbers 0 (p .bound + 1)) ∙ all-of-numbers-if position-test (p .bound + 1) (λ t l. h t (omega arith))
+
 -- ════════ Accepted bytes are witnesses ════════
 
 module _ (p : Problem) (bs : List ℕ) where
@@ -183,6 +205,7 @@ module _ (p : Problem) (bs : List ℕ) where
         start-in-range = start;
         bits-in-range = bits limits;
         starts-right = starts-if-passes p bs (q .resets-pass);
+        constraints-met = met-if-passes p bs (q .positions-pass);
         shows = shows-if-passes p bs (shape bs) right (start-within p (byte bs 0) start) (q .loop-passes) (q .formula-passes);
       }
     where
@@ -195,6 +218,7 @@ module _ (p : Problem) (bs : List ℕ) where
     bytes-pass = pass-if-bytes p bs (w .length-right) limits;
     resets-pass = passes-if-starts p bs (w .starts-right);
     loop-passes = loop-if-shows p bs (shape bs) (w .shows);
+    positions-pass = passes-if-met p bs (w .constraints-met);
     formula-passes = value-if-shows p bs (shape bs) (start-within p (byte bs 0) (w .start-in-range)) (w .shows);
   }
     where

@@ -13,6 +13,7 @@ at-bound p k = record {
   inputs = p .inputs;
   latches = p .latches;
   gates = p .gates;
+  constraints = p .constraints;
   nodes = p .nodes;
   bound = k;
 }

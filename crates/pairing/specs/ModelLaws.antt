@@ -7,7 +7,7 @@ use lib.IntN.{pos}
 use lib.ListN.{length}
 use Rattle.clauses.specs.Lists.{numbers, some-of}
 use Rattle.clauses.specs.Clauses.{Assignment, literal-true}
-use Rattle.meaning.specs.Problem.{Problem, W, latch-variable, gate-variable, latch, gate, node}
+use Rattle.meaning.specs.Problem.{Problem, W, latch-variable, gate-variable, latch, gate, constraint, node}
 use Rattle.meaning.specs.Runs.{literal-value, gate-value, meets-reset}
 use Rattle.meaning.specs.Cnf as Cnf
 use Rattle.meaning.specs.Cnf.{true-literal, positions, circuit-variable, selector, node-variables}
@@ -36,10 +36,11 @@ reading p a = record {
 abbrev pub row : Problem → Reading → ℕ → List Bool
 row p r t = map (r .circuit t) (numbers 0 (W p + 1))
 
--- Items 1 to 8 of the CNF.
+-- Items 1 to 8 of the CNF, the constraints after item 2.
 pub record ModelLaws (p : Problem) (r : Reading) : Type 0 where
   pub truth-law : r .truth ≡ true
   pub gate-law : (t j : ℕ) → t ≤ p .bound → j < length (p .gates) → r .circuit t (gate-variable p j) ≡ gate-value (row p r t) (gate p j)
+  pub constraint-law : (t c : ℕ) → t ≤ p .bound → c < length (p .constraints) → literal-value (row p r t) (constraint p c) ≡ true
   pub reset-law : (i : ℕ) → i < length (p .latches) → meets-reset (latch p i .reset) (r .circuit 0 (latch-variable p i)) ≡ true
   pub step-law : (t i : ℕ) → t < p .bound → i < length (p .latches)
       → r .circuit (t + 1) (latch-variable p i) ≡ literal-value (row p r t) (latch p i .next)

@@ -1,4 +1,4 @@
--- Of a problem without a witness at or below its bound: words that the judge of its refutations accepts. Assumes nothing.
+-- Of a problem without a witness at its bound: words that the judge of its refutations accepts. Assumes nothing.
 use mathlib.Core.Path.{_≡_}
 use mathlib.Core.List.{List}
 use Prim.Native.Nat.{ℕ, _≤_}

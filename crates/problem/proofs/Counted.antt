@@ -21,6 +21,7 @@ module _ {s : Outline} {ws : List ℕ} {f : Seen} (good : ProperIn s ws) (seen :
         good .width-is,
         sizes .latches-are,
         sizes .gates-are,
+        sizes .constraints-are,
         seen .fixed-are,
         forms .equals-are,
         forms .ors-are,

@@ -90,4 +90,5 @@ kind-by o p i f e seen = rw e at seen
 pub none-seen : (k : Kind) (p : Problem) → SeenTo k p 0 (record { fixed = 0; equals = 0; ors = 0; untils = 0 })
 none-seen Kind.Latch p = refl
 none-seen Kind.Gate p = tt
+none-seen Kind.Constraint p = tt
 none-seen Kind.Node p = record { equals-are = refl; ors-are = refl; untils-are = refl }

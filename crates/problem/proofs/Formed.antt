@@ -53,7 +53,7 @@ parts-by ws e a = rw e at a
 
 -- The parts before the outline: the header and its limits.
 abbrev pub opening : ℕ → List ℕ → List (List Check)
-opening version ws = header-checks version ws ∷ limit-checks ws ∷ []
+opening version ws = header-checks version ws ∷ limit-checks version ws ∷ []
 
 module _ (version : ℕ) (ws : List ℕ) where
   pub in-limits-if-passed : Answers (opening version ws) Passed → InLimits (outline version ws)
@@ -79,7 +79,7 @@ module _ (version : ℕ) (ws : List ℕ) where
   refused-by-opening a = record { answered = refused-first (opening version ws) (outline-parts (outline version ws) ws) a .answered (granted 0); outlined = tt; counted = tt }
 
   module _ {s : Outline} (passed : Answers (opening version ws) Passed) (is : outline-of s ≡ outline version ws) where
-    all : {r : PartAnswer} → Answers (outline-parts (outline-of s) ws) r → Answers (header-checks version ws ∷ limit-checks ws ∷ outline-parts (outline version ws) ws) r
+    all : {r : PartAnswer} → Answers (outline-parts (outline-of s) ws) r → Answers (header-checks version ws ∷ limit-checks version ws ∷ outline-parts (outline version ws) ws) r
     all b = passed-first (opening version ws) (outline-parts (outline version ws) ws) passed (parts-by ws is b)
 
     pub refused-by-parts : {f : Refusal} → Answers (outline-parts (outline-of s) ws) (Refused f) → CheckedAs version ws (Checked.Refused f)

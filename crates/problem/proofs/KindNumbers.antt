@@ -5,15 +5,16 @@ use Prim.Native.Nat.{ℕ}
 use lib.ListN.{getD}
 use denote.Enum.Declared.{tagOf}
 use Rattle.problem.specs.declared.check.Kind.{Kind}
-use Rattle.problem.specs.declared.check.Kind.the-variants.{Latch, Gate, Node}
+use Rattle.problem.specs.declared.check.Kind.the-variants.{Latch, Gate, Constraint, Node}
 use Rattle.problem.proofs.check.Kind.{the-type}
 
 abbrev kinds : List Kind
-kinds = Latch ∷ Gate ∷ Node ∷ []
+kinds = Latch ∷ Gate ∷ Constraint ∷ Node ∷ []
 
 numbered : (k : Kind) → getD kinds (tagOf the-type k) Latch ≡ k
 numbered Latch = refl
 numbered Gate = refl
+numbered Constraint = refl
 numbered Node = refl
 
 pub is : (k : Kind) {n : ℕ} → tagOf the-type k ≡ n → k ≡ getD kinds n Latch

@@ -5,7 +5,7 @@ use Prim.Native.Nat.{ℕ}
 use native.Mathlib.Omega.{arith}
 use Rattle.clauses.specs.Answers.{Answer}
 use Rattle.clauses.proofs.Answers.{number-of, place-of}
-use Rattle.meaning.specs.Limits.{inputs-limit, latches-limit, gates-limit, nodes-limit, bound-limit}
+use Rattle.meaning.specs.Limits.{inputs-limit, latches-limit, gates-limit, nodes-limit, bound-limit, constraints-limit}
 use Rattle.meaning.specs.Problem.{header-words, problem-by, problem}
 use Rattle.meaning.specs.Cases.{T-words, H}
 use Rattle.meaning.specs.Cnf.{variables, cnf, cnf-words}
@@ -29,7 +29,7 @@ pub record Input : Type 0 where
 
 -- The answer that document 01 lays down.
 unfoldable pub laid-down : Input → Answer
-unfolding header-words inputs-limit latches-limit gates-limit nodes-limit bound-limit check-problem
+unfolding header-words inputs-limit latches-limit gates-limit nodes-limit bound-limit constraints-limit check-problem
 laid-down x = check-problem (x .version) (x .words)
 
 -- This outcome meets the promise for the input, or does not.
@@ -67,7 +67,19 @@ T-with next reset op a b = 0 ∷ 1 ∷ 0 ∷ 1 ∷ 0 ∷ next ∷ reset ∷ op �
 -- ════════ Refuses all, accepts all, makes an outline up ════════
 
 abbrev pub T-outline : Outline
-T-outline = record { inputs = 0; latches = 1; gates = 0; nodes = 1; bound = 0; width = 1; «latches_from» = 5; «gates_from» = 7; «nodes_from» = 7 }
+T-outline = record {
+  inputs = 0;
+  latches = 1;
+  gates = 0;
+  constraints = 0;
+  nodes = 1;
+  bound = 0;
+  width = 1;
+  «latches_from» = 5;
+  «gates_from» = 7;
+  «constraints_from» = 7;
+  «nodes_from» = 7;
+}
 
 abbrev pub T-record : ProblemRecord
 T-record = record { outline = T-outline; counts = record { variables = 6; clauses = 12; words = 37 } }
@@ -94,7 +106,19 @@ abbrev pub H-release : Input
 H-release =
     good (H 3 3 (0 ∷ 12 ∷ 0 ∷ 0 ∷ 1 ∷ 0 ∷ 7 ∷ 0 ∷ 1 ∷ []))
     (record {
-      outline = record { inputs = 0; latches = 2; gates = 4; nodes = 3; bound = 3; width = 6; «latches_from» = 5; «gates_from» = 9; «nodes_from» = 17 };
+      outline = record {
+        inputs = 0;
+        latches = 2;
+        gates = 4;
+        constraints = 0;
+        nodes = 3;
+        bound = 3;
+        width = 6;
+        «latches_from» = 5;
+        «gates_from» = 9;
+        «constraints_from» = 17;
+        «nodes_from» = 17;
+      };
       counts = record { variables = 56; clauses = 177; words = 616 };
     })
 

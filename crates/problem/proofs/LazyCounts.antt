@@ -34,6 +34,7 @@ with-positions n t = record {
   latches = t .latches;
   fixed = t .fixed;
   gates = t .gates;
+  constraints = t .constraints;
   equals = t .equals;
   ors = t .ors;
   untils = t .untils;
@@ -58,6 +59,7 @@ lighter w n t weighs grows some =
     omega (
       arith,
       mul-le-mul-right (t .gates * or-weight w) positions,
+      mul-le-mul-right (t .constraints * w 1) positions,
       mul-le-mul-right (t .latches * equal-weight w) before-last,
       mul-le-mul-right (t .latches * selected-weight w) positions,
       mul-le-mul-right (w 2) pairs-grow,
@@ -150,7 +152,19 @@ abbrev pub T-longer : Input
 T-longer =
     good (0 ∷ 1 ∷ 0 ∷ 1 ∷ 1 ∷ 3 ∷ 0 ∷ 0 ∷ 2 ∷ 0 ∷ [])
     (record {
-      outline = record { inputs = 0; latches = 1; gates = 0; nodes = 1; bound = 1; width = 1; «latches_from» = 5; «gates_from» = 7; «nodes_from» = 7 };
+      outline = record {
+        inputs = 0;
+        latches = 1;
+        gates = 0;
+        constraints = 0;
+        nodes = 1;
+        bound = 1;
+        width = 1;
+        «latches_from» = 5;
+        «gates_from» = 7;
+        «constraints_from» = 7;
+        «nodes_from» = 7;
+      };
       counts = numbers-of 10 23 75;
     })
 
@@ -164,11 +178,13 @@ limits-outline = record {
   inputs = inputs-limit;
   latches = latches-limit;
   gates = gates-limit;
+  constraints = 0;
   nodes = nodes-limit;
   bound = bound-limit;
   width = inputs-limit + latches-limit + gates-limit;
   «latches_from» = 5;
   «gates_from» = 5 + 2 * latches-limit;
+  «constraints_from» = 5 + 2 * latches-limit + 2 * gates-limit;
   «nodes_from» = 5 + 2 * latches-limit + 2 * gates-limit;
 }
 

@@ -9,4 +9,5 @@ pub mod Counted
 pub mod Formed
 pub mod Lazy
 pub mod LazyOrder
+pub mod LazyConstraints
 pub mod LazyCounts

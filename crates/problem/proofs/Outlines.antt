@@ -5,8 +5,8 @@ use Prim.Native.Nat.{ℕ, _+_, _≤_, _<_}
 use native.Mathlib.Omega.{arith}
 use lib.ListN.{length}
 use Rattle.meaning.specs.Limits.{inputs-limit, latches-limit, gates-limit, bound-limit}
-use Rattle.meaning.specs.Problem.{Problem, Latch, Gate, atom, latch, gate, node, word, latch-place, gate-place, read-node}
-use Rattle.meaning.proofs.ShownBy.{inputs-by, bound-by, latches-by, gates-by, nodes-by, latch-by, gate-by, node-by, latch-past, gate-past, node-past}
+use Rattle.meaning.specs.Problem.{Problem, Latch, Gate, atom, latch, gate, constraint, node, word, latch-place, gate-place, constraint-place, read-node}
+use Rattle.meaning.proofs.ShownBy.{inputs-by, bound-by, latches-by, gates-by, constraints-by, nodes-by, latch-by, gate-by, constraint-by, node-by, latch-past, gate-past, constraint-past, node-past}
 use Rattle.problem.specs.declared.Outline.{Outline}
 use Rattle.problem.specs.Promise.{outline-of, problem-in, ProperIn}
 
@@ -15,6 +15,7 @@ pub record Shows (s : Outline) (p : Problem) : Type 0 where
   pub inputs-are : p .inputs ≡ s .inputs
   pub latches-are : length (p .latches) ≡ s .latches
   pub gates-are : length (p .gates) ≡ s .gates
+  pub constraints-are : length (p .constraints) ≡ s .constraints
   pub nodes-are : length (p .nodes) ≡ s .nodes
   pub bound-is : p .bound ≡ s .bound
 
@@ -25,11 +26,12 @@ module _ (s : Outline) (ws : List ℕ) where
     inputs-are = inputs-by (outline-of s) ws;
     latches-are = latches-by (outline-of s) ws;
     gates-are = gates-by (outline-of s) ws;
+    constraints-are = constraints-by (outline-of s) ws;
     nodes-are = nodes-by (outline-of s) ws;
     bound-is = bound-by (outline-of s) ws;
   }
 
-  -- The words at the places of a latch, a gate, a node.
+  -- The words at the places of a latch, a gate, a constraint, a node.
   module _ (i : ℕ) (l : i < s .latches) where
     pub next-read : word ws (latch-place (outline-of s) i) ≡ latch (problem-in s ws) i .next
     unfolding problem-in
@@ -47,6 +49,10 @@ module _ (s : Outline) (ws : List ℕ) where
     pub right-read : word ws (gate-place (outline-of s) j + 1) ≡ gate (problem-in s ws) j .right
     unfolding problem-in
     right-read = sym (ap (λ (g : Gate). g .right) (gate-by (outline-of s) ws j l))
+
+  pub constraint-read : (c : ℕ) → c < s .constraints → word ws (constraint-place (outline-of s) c) ≡ constraint (problem-in s ws) c
+  unfolding problem-in
+  constraint-read c l = sym (constraint-by (outline-of s) ws c l)
 
   pub node-words-read : (n : ℕ) → n < s .nodes → read-node (outline-of s) ws n ≡ node (problem-in s ws) n
   unfolding problem-in
@@ -70,6 +76,10 @@ module _ (s : Outline) (ws : List ℕ) where
     pub right-past : gate (problem-in s ws) j .right ≡ 0
     unfolding problem-in
     right-past = ap (λ (g : Gate). g .right) (gate-past (outline-of s) ws j l)
+
+  pub constraints-past : (c : ℕ) → s .constraints ≤ c → constraint (problem-in s ws) c ≡ 1
+  unfolding problem-in
+  constraints-past c l = constraint-past (outline-of s) ws c l
 
   pub nodes-past : (n : ℕ) → s .nodes ≤ n → node (problem-in s ws) n ≡ atom 0
   unfolding problem-in

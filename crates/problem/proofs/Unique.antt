@@ -57,11 +57,13 @@ outline-back o = record {
   inputs = o .inputs;
   latches = o .latches;
   gates = o .gates;
+  constraints = o .constraints;
   nodes = o .nodes;
   bound = o .bound;
   width = o .width;
   «latches_from» = o .latches-from;
   «gates_from» = o .gates-from;
+  «constraints_from» = o .constraints-from;
   «nodes_from» = o .nodes-from;
 }
 

@@ -4,7 +4,7 @@ use mathlib.Core.List.{List, _++_}
 use Prim.Native.Nat.{ℕ, _+_}
 use Rattle.clauses.specs.Answers.{Answer, Check, first-failing-part}
 use Rattle.meaning.specs.Problem as problems
-use Rattle.meaning.specs.Check.{latch-checks, gate-checks, node-checks}
+use Rattle.meaning.specs.Check.{latch-checks, gate-checks, constraint-checks, node-checks}
 use Rattle.meaning.specs.Proper.{InLimits}
 use Rattle.problem.specs.declared.Outline.{Outline}
 use Rattle.problem.specs.declared.check.PartAnswer.{PartAnswer}
@@ -36,9 +36,11 @@ pub record Fitting (s : Outline) : Type 0 where
 abbrev pub count-of : Kind → problems.Outline → ℕ
 count-of kinds.Latch o = o .latches
 count-of kinds.Gate o = o .gates
+count-of kinds.Constraint o = o .constraints
 count-of kinds.Node o = o .nodes
 
 abbrev pub checks-of : Kind → problems.Outline → List ℕ → ℕ → List Check
 checks-of kinds.Latch = latch-checks
 checks-of kinds.Gate = gate-checks
+checks-of kinds.Constraint = constraint-checks
 checks-of kinds.Node = node-checks

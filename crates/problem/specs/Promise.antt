@@ -41,11 +41,13 @@ outline-of s = record {
   inputs = s .inputs;
   latches = s .latches;
   gates = s .gates;
+  constraints = s .constraints;
   nodes = s .nodes;
   bound = s .bound;
   width = s .width;
   latches-from = s .«latches_from»;
   gates-from = s .«gates_from»;
+  constraints-from = s .«constraints_from»;
   nodes-from = s .«nodes_from»;
 }
 

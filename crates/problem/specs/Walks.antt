@@ -1,4 +1,4 @@
--- What a walk over the latches, gates or nodes answers, and what it counts on the way. Assumes nothing.
+-- What a walk over the latches, gates, constraints or nodes answers, and what it counts on the way. Assumes nothing.
 use mathlib.Core.Path.{_≡_}
 use mathlib.Core.List.{List, [], _∷_, _++_}
 use Prim.Native.Nat.{ℕ, _+_, _^_, _<_}
@@ -41,6 +41,7 @@ pub record Added (f : Seen) (x : Node) (r : Seen) : Type 0 where
 abbrev pub SeenTo : Kind → Problem → ℕ → Seen → Type 0
 SeenTo kinds.Latch p i f = f .fixed ≡ fixed-resets (take i (p .latches))
 SeenTo kinds.Gate p i f = Unit
+SeenTo kinds.Constraint p i f = Unit
 SeenTo kinds.Node p i f = FormsOf (take i (p .nodes)) f
 
 -- All that is counted in a problem.
@@ -56,6 +57,7 @@ tally-with s f = record {
   latches = s .latches;
   fixed = f .fixed;
   gates = s .gates;
+  constraints = s .constraints;
   equals = f .equals;
   ors = f .ors;
   untils = f .untils;

@@ -1,4 +1,4 @@
-// The check of a problem, in document 01's fixed order: parts one after another, each of which passes or refuses.
+// The check of a problem, in the documents' fixed order: parts one after another, each of which passes or refuses.
 use crate::Checked;
 use crate::Outline;
 use crate::ProblemRecord;
@@ -7,17 +7,21 @@ use crate::count::Seen;
 use crate::count::numbers;
 use crate::count::with_one;
 use crate::header::BOUND;
+use crate::header::CONSTRAINTS;
 use crate::header::GATES;
 use crate::header::INPUTS;
 use crate::header::LATCHES;
 use crate::header::NODES;
+use crate::header::header_word;
 use crate::header::header_words;
 use crate::header::outline;
 use crate::limits::BOUND_LIMIT;
+use crate::limits::CONSTRAINTS_LIMIT;
 use crate::limits::GATES_LIMIT;
 use crate::limits::INPUTS_LIMIT;
 use crate::limits::LATCHES_LIMIT;
 use crate::limits::NODES_LIMIT;
+use crate::read::constraint_place;
 use crate::read::gate_place;
 use crate::read::latch_place;
 use crate::read::node_place;
@@ -25,7 +29,7 @@ use crate::read::word_at;
 ghost use mathlib.Core.Path.{_≡_};
 ghost use mathlib.Core.List.{[], _∷_};
 ghost use Prim.Native.Nat.{_<_};
-ghost use Rattle.meaning.specs.Check.{header-checks, limit-check, limit-checks, length-checks, latch-checks, gate-checks, node-checks, first-right, second-right};
+ghost use Rattle.meaning.specs.Check.{header-checks, limit-check, constraints-check, limit-checks, length-checks, latch-checks, gate-checks, constraint-checks, node-checks, first-right, second-right};
 ghost use Rattle.problem.specs.Promise.{CheckedAs, outline-of};
 ghost use Rattle.problem.specs.CheckParts.{Answers, Joined, Fitting, count-of, checks-of};
 ghost use Rattle.problem.specs.Walks.{AllWalked, PartsWalked};
@@ -48,6 +52,7 @@ pub(crate) enum PartAnswer {
 pub(crate) enum Kind {
     Latch,
     Gate,
+    Constraint,
     Node,
 }
 
@@ -95,8 +100,18 @@ fn limit(words: &[u32], at: usize, least: u32, most: u32) -> PartAnswer
     PartAnswer::Passed
 }
 
-fn limits(words: &[u32]) -> PartAnswer
-    ensures { λ r. ⌜ Answers (limit-checks (now (words .entry)) ∷ []) r ⌝ }
+// D is within its limit.
+fn constraints_limit(version: u32, words: &[u32]) -> PartAnswer
+    ensures { λ r. ⌜ Answers ((constraints-check version (now (words .entry)) ∷ []) ∷ []) r ⌝ }
+{
+    if CONSTRAINTS_LIMIT < header_word(version, words, CONSTRAINTS) {
+        return PartAnswer::Refused(Refusal::OutsideLimits(CONSTRAINTS));
+    }
+    PartAnswer::Passed
+}
+
+fn limits(version: u32, words: &[u32]) -> PartAnswer
+    ensures { λ r. ⌜ Answers (limit-checks version (now (words .entry)) ∷ []) r ⌝ }
 {
     let to_latches = then(
         limit(words, INPUTS, 0, INPUTS_LIMIT),
@@ -104,7 +119,8 @@ fn limits(words: &[u32]) -> PartAnswer
     );
     let to_gates = then(to_latches, limit(words, GATES, 0, GATES_LIMIT));
     let to_nodes = then(to_gates, limit(words, NODES, 1, NODES_LIMIT));
-    then(to_nodes, limit(words, BOUND, 0, BOUND_LIMIT))
+    let to_bound = then(to_nodes, limit(words, BOUND, 0, BOUND_LIMIT));
+    then(to_bound, constraints_limit(version, words))
 }
 
 fn length(words: &[u32], s: Outline) -> PartAnswer
@@ -141,6 +157,17 @@ fn gate(words: &[u32], s: Outline, j: u32) -> PartAnswer
     }
     if limit <= word_at(words, at + 1) {
         return PartAnswer::Refused(Refusal::BadLiteral(at + 1));
+    }
+    PartAnswer::Passed
+}
+
+fn constraint(words: &[u32], s: Outline, c: u32) -> PartAnswer
+    requires { ⌜ Fitting s ⌝ }
+    ensures { λ r. ⌜ Answers (constraint-checks (outline-of s) (now (words .entry)) c ∷ []) r ⌝ }
+{
+    let at = constraint_place(s, c);
+    if 2 * s.width + 1 < word_at(words, at) {
+        return PartAnswer::Refused(Refusal::BadLiteral(at));
     }
     PartAnswer::Passed
 }
@@ -189,6 +216,7 @@ fn count(s: Outline, kind: Kind) -> u32
     match kind {
         Kind::Latch => s.latches,
         Kind::Gate => s.gates,
+        Kind::Constraint => s.constraints,
         Kind::Node => s.nodes,
     }
 }
@@ -200,6 +228,7 @@ fn one(words: &[u32], s: Outline, kind: Kind, i: u32) -> PartAnswer
     match kind {
         Kind::Latch => latch(words, s, i),
         Kind::Gate => gate(words, s, i),
+        Kind::Constraint => constraint(words, s, i),
         Kind::Node => node(words, s, i),
     }
 }
@@ -245,13 +274,18 @@ fn parts(words: &[u32], s: Outline) -> Walked
         ..
     } = all(words, s, Kind::Gate);
     let Walked {
+        answer: by_constraints,
+        ..
+    } = all(words, s, Kind::Constraint);
+    let Walked {
         answer: by_nodes,
         seen: nodes,
     } = all(words, s, Kind::Node);
     let to_latches = then(length(words, s), by_latches);
     let to_gates = then(to_latches, by_gates);
+    let to_constraints = then(to_gates, by_constraints);
     Walked {
-        answer: then(to_gates, by_nodes),
+        answer: then(to_constraints, by_nodes),
         seen: Seen {
             fixed: latches.fixed,
             equals: nodes.equals,
@@ -265,7 +299,7 @@ fn parts(words: &[u32], s: Outline) -> Walked
 pub fn check(version: u32, words: &[u32]) -> Checked
     ensures { λ r. ⌜ CheckedAs version (now (words .entry)) r ⌝ }
 {
-    let opening = then(header(version, words), limits(words));
+    let opening = then(header(version, words), limits(version, words));
     if let PartAnswer::Refused(f) = opening {
         return Checked::Refused(f);
     }

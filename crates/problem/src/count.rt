@@ -60,7 +60,7 @@ fn with_op(seen: Seen, op: u32) -> Seen
     }
 }
 
-// One more of a kind: a latch by its reset, a node by its form, of a gate nothing.
+// One more of a kind: a latch by its reset, a node by its form, of a gate or a constraint nothing.
 pub(crate) fn with_one(words: &[u32], s: Outline, kind: Kind, i: u32, seen: Seen) -> Seen
     requires { ⌜ (i < count-of kind (outline-of s)) × SeenTo kind (problem-in s (now words)) i seen ⌝ }
     ensures { λ r. ⌜ SeenTo kind (problem-in s (now (words .entry))) (i + 1) r ⌝ }
@@ -68,6 +68,7 @@ pub(crate) fn with_one(words: &[u32], s: Outline, kind: Kind, i: u32, seen: Seen
     match kind {
         Kind::Latch => with_reset(seen, latch_reset(words, s, i)),
         Kind::Gate => seen,
+        Kind::Constraint => seen,
         Kind::Node => with_op(seen, word_at(words, node_place(s, i))),
     }
 }
@@ -82,6 +83,7 @@ pub(crate) fn numbers(s: Outline, seen: Seen) -> Counts
         latches: s.latches as usize,
         fixed: seen.fixed,
         gates: s.gates as usize,
+        constraints: s.constraints as usize,
         equals: seen.equals,
         ors: seen.ors,
         untils: seen.untils,

@@ -3,11 +3,11 @@ use crate::Outline;
 use crate::read::word_at;
 ghost use mathlib.Core.Path.{_≡_};
 ghost use lib.Dec.{ltb};
-ghost use Rattle.meaning.specs.Problem.{header-words, outline};
+ghost use Rattle.meaning.specs.Problem.{header-words, header-word, outline};
 ghost use Rattle.meaning.specs.Proper.{InLimits};
 ghost use Rattle.problem.specs.Promise.{outline-of};
 
-// "A lent slice of 32-bit words: I, L, A, N, k": the place of each.
+// "A lent slice of 32-bit words: I, L, A, N, k", and in version 2 D: the place of each.
 pub(crate) const INPUTS: usize = 0;
 
 pub(crate) const LATCHES: usize = 1;
@@ -18,7 +18,9 @@ pub(crate) const NODES: usize = 3;
 
 pub(crate) const BOUND: usize = 4;
 
-// Pairs for the latches and for the gates; nodes are triples.
+pub(crate) const CONSTRAINTS: usize = 5;
+
+// Pairs for the latches and for the gates; constraints are single words, nodes triples.
 const PAIR: u32 = 2;
 
 // The words of a version's header; one not known has none.
@@ -27,6 +29,7 @@ pub(crate) fn header_words(version: u32) -> u32
 {
     match version {
         1 => 5,
+        2 => 6,
         _ => 0,
     }
 }
@@ -36,6 +39,17 @@ pub fn known_version(version: u32) -> bool
     ensures { λ r. ⌜ r ≡ ltb 0 (header-words version) ⌝ }
 {
     0 < header_words(version)
+}
+
+// A later version's word of the header; one that the header does not have is 0.
+pub(crate) fn header_word(version: u32, words: &[u32], at: usize) -> u32
+    ensures { λ r. ⌜ r ≡ header-word version (now (words .entry)) at ⌝ }
+{
+    if at < (header_words(version) as usize) {
+        word_at(words, at)
+    } else {
+        0
+    }
 }
 
 // The outline of words whose header is within the limits.
@@ -49,16 +63,20 @@ pub(crate) fn outline(version: u32, words: &[u32]) -> Outline
     let width = inputs + latches + gates;
     let latches_from = header_words(version);
     let gates_from = latches_from + PAIR * latches;
-    let nodes_from = gates_from + PAIR * gates;
+    let constraints_from = gates_from + PAIR * gates;
+    let constraints = header_word(version, words, CONSTRAINTS);
+    let nodes_from = constraints_from + constraints;
     Outline {
         inputs,
         latches,
         gates,
+        constraints,
         nodes: word_at(words, NODES),
         bound: word_at(words, BOUND),
         width,
         latches_from,
         gates_from,
+        constraints_from,
         nodes_from,
     }
 }

@@ -13,11 +13,13 @@ pub struct Outline {
     pub inputs: u32,
     pub latches: u32,
     pub gates: u32,
+    pub constraints: u32,
     pub nodes: u32,
     pub bound: u32,
     pub width: u32,
     pub latches_from: u32,
     pub gates_from: u32,
+    pub constraints_from: u32,
     pub nodes_from: u32,
 }
 

@@ -3,15 +3,18 @@ use crate::Left;
 use crate::Node;
 use crate::Outline;
 ghost use mathlib.Core.Path.{_≡_};
-ghost use Rattle.meaning.specs.Problem.{word, latch-place, gate-place, node-place, latch, gate, node, node-of};
+ghost use Rattle.meaning.specs.Problem.{word, latch-place, gate-place, constraint-place, node-place, latch, gate, constraint, node, node-of};
 ghost use Rattle.problem.specs.Promise.{outline-of, problem-in, node-read};
 
-// Pairs for the latches, pairs for the gates, triples for the nodes.
+// Pairs for the latches, pairs for the gates, triples for the nodes; a constraint is one word.
 const LATCH_WORDS: usize = 2;
 
 const GATE_WORDS: usize = 2;
 
 const NODE_WORDS: usize = 3;
+
+// The literal true, which a constraint that is not there asks.
+const TRUE: u32 = 1;
 
 // "2 for free"; so is a latch that is not there.
 pub const FREE: u32 = 2;
@@ -23,7 +26,7 @@ pub(crate) fn word_at(words: &[u32], at: usize) -> u32
     if at < words.len() { words[at] } else { 0 }
 }
 
-// Where the words of a latch, a gate or a node begin.
+// Where the words of a latch, a gate, a constraint or a node begin.
 pub(crate) fn latch_place(s: Outline, i: u32) -> usize
     ensures { λ r. ⌜ r ≡ latch-place (outline-of s) i ⌝ }
 {
@@ -36,6 +39,13 @@ pub fn gate_place(s: Outline, j: u32) -> usize
 {
     let from = s.gates_from as usize;
     from + GATE_WORDS * (j as usize)
+}
+
+pub(crate) fn constraint_place(s: Outline, c: u32) -> usize
+    ensures { λ r. ⌜ r ≡ constraint-place (outline-of s) c ⌝ }
+{
+    let from = s.constraints_from as usize;
+    from + (c as usize)
 }
 
 pub(crate) fn node_place(s: Outline, n: u32) -> usize
@@ -82,6 +92,16 @@ pub fn gate_right(words: &[u32], s: Outline, j: u32) -> u32
         word_at(words, gate_place(s, j) + 1)
     } else {
         0
+    }
+}
+
+pub fn constraint(words: &[u32], s: Outline, c: u32) -> u32
+    ensures { λ r. ⌜ r ≡ constraint (problem-in s (now (words .entry))) c ⌝ }
+{
+    if c < s.constraints {
+        word_at(words, constraint_place(s, c))
+    } else {
+        TRUE
     }
 }
 

@@ -10,7 +10,7 @@ use lib.Dec.{leb, ltb, eqb}
 use lib.ListN.{length, getD, drop}
 use lib.Seq.{getD-take, getD-drop}
 use Rattle.clauses.specs.Lists.{numbers, all-of}
-use Rattle.clauses.proofs.Satisfaction.{both-true, first-true, second-true, not-both, false-if-not-true}
+use Rattle.clauses.proofs.Satisfaction.{both-true, first-true, second-true, not-both, false-if-not-true, all-of-at, all-of-if-at}
 use Rattle.meaning.specs.Limits.{inputs-limit, latches-limit, gates-limit, nodes-limit, bound-limit}
 use Rattle.meaning.specs.Problem.{Problem, Left, Node, node, constant, child, atom, both, either, next, until, release}
 use Rattle.meaning.specs.Proper.{LeftProper}
@@ -35,6 +35,13 @@ module _ (f : ℕ → Bool) (n : ℕ) {i : ℕ} where
 
   pub none-fails : n ≤ i → ((j : ℕ) → j < i → f j ≡ true) → true ≡ all-of f (numbers 0 n)
   none-fails l passed = sym (all-of-numbers-if f n (λ j h. passed j (omega arith)))
+
+module _ {A : Type 0} (f : A → Bool) (xs : List A) (d : A) {i : ℕ} where
+  pub one-element-fails : i < length xs → f (getD xs i d) ≡ false → false ≡ all-of f xs
+  one-element-fails l e = sym (false-if-not-true (all-of f xs) (λ all. not-both (all-of-at f xs i d all l) e))
+
+  pub no-element-fails : length xs ≤ i → ((j : ℕ) → j < i → f (getD xs j d) ≡ true) → true ≡ all-of f xs
+  no-element-fails l passed = sym (all-of-if-at f xs d (λ j h. passed j (omega arith)))
 
 -- ════════ Nodes ════════
 

@@ -14,7 +14,7 @@ use Rattle.clauses.specs.Answers.{Answer, Check, first-failing, granted}
 use Rattle.clauses.proofs.Satisfaction.{first-true, second-true}
 use Rattle.clauses.proofs.Answers.{passing, first-failing-append, place-of}
 use Rattle.meaning.specs.Problem.{Problem, problem}
-use Rattle.meaning.specs.Witnesses.{witness-length, byte, byte-checks, reset-checks, loop-checks, formula-checks, shape}
+use Rattle.meaning.specs.Witnesses.{witness-length, byte, byte-checks, reset-checks, loop-checks, position-checks, formula-checks, shape}
 use Rattle.meaning.specs.Calls.{judge-bytes, judge-witness}
 use Rattle.meaning.proofs.Check.{first-failing-refused, checked-if-well-formed}
 use Rattle.meaning.proofs.Calls.{judge-witness-is}
@@ -41,10 +41,11 @@ yes-if-first (answers.Problem f) e = absurd (omega arith)
 yes-if-first (answers.BadWitness i) e = absurd (omega arith)
 yes-if-first (answers.AgainstReset i) e = absurd (omega arith)
 yes-if-first (answers.OpenLoop i) e = absurd (omega arith)
+yes-if-first (answers.ConstraintBroken t) e = absurd (omega arith)
 yes-if-first answers.FormulaFalse e = absurd (omega arith)
 
 abbrev pub refusals : List ℕ
-refusals = 1 ∷ 2 ∷ 3 ∷ 4 ∷ 5 ∷ []
+refusals = 1 ∷ 2 ∷ 3 ∷ 4 ∷ 5 ∷ 6 ∷ []
 
 pub refuses-if-later : (r : WitnessAnswer) → OneOf refusals (tagOf the-type r) → Refuses r
 refuses-if-later answers.Yes later = absurd (miss refusals 0 tt later)
@@ -52,6 +53,7 @@ refuses-if-later (answers.Problem f) later = λ a b. refl
 refuses-if-later (answers.BadWitness i) later = λ a b. refl
 refuses-if-later (answers.AgainstReset i) later = λ a b. refl
 refuses-if-later (answers.OpenLoop i) later = λ a b. refl
+refuses-if-later (answers.ConstraintBroken t) later = λ a b. refl
 refuses-if-later answers.FormulaFalse later = λ a b. refl
 
 -- ════════ One part after another ════════
@@ -97,9 +99,12 @@ start-right p bs is a =
 
 -- ════════ The whole ════════
 
--- 7 to 10 in their order.
+-- 7, 8, 9, 20, 10.
+abbrev pub from-positions : Problem → List ℕ → List Check
+from-positions p bs = position-checks p bs ++ formula-checks p bs
+
 abbrev pub from-loop : Problem → List ℕ → List Check
-from-loop p bs = loop-checks p bs (shape bs) ++ formula-checks p bs
+from-loop p bs = loop-checks p bs (shape bs) ++ from-positions p bs
 
 abbrev pub from-resets : Problem → List ℕ → List Check
 from-resets p bs = reset-checks p bs ++ from-loop p bs
@@ -111,7 +116,9 @@ judged p bs a =
     ∙ first-failing-append (byte-checks p bs) (from-resets p bs) (granted 0)
     ∙ ap (first-failing (byte-checks p bs))
     (first-failing-append (reset-checks p bs) (from-loop p bs) (granted 0)
-    ∙ ap (first-failing (reset-checks p bs)) (first-failing-append (loop-checks p bs (shape bs)) (formula-checks p bs) (granted 0)))
+    ∙ ap (first-failing (reset-checks p bs))
+    (first-failing-append (loop-checks p bs (shape bs)) (from-positions p bs) (granted 0)
+    ∙ ap (first-failing (loop-checks p bs (shape bs))) (first-failing-append (position-checks p bs) (formula-checks p bs) (granted 0))))
 
 module _ {version : ℕ} {ws : List ℕ} where
   -- The check of a good problem leaves the answer to the witness.

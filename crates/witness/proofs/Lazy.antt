@@ -5,9 +5,9 @@ use Prim.Native.Nat.{ℕ}
 use native.Mathlib.Omega.{arith}
 use Rattle.clauses.specs.Answers.{Answer}
 use Rattle.clauses.proofs.Answers.{number-of, place-of}
-use Rattle.meaning.specs.Limits.{inputs-limit, latches-limit, gates-limit, nodes-limit, bound-limit}
+use Rattle.meaning.specs.Limits.{inputs-limit, latches-limit, gates-limit, nodes-limit, bound-limit, constraints-limit}
 use Rattle.meaning.specs.Problem.{header-words, problem-by, problem}
-use Rattle.meaning.specs.Runs.{values, next-values}
+use Rattle.meaning.specs.Runs.{values, next-values, meets-constraints}
 use Rattle.meaning.specs.Formulas.{formula}
 use Rattle.meaning.specs.Witnesses.{run}
 use Rattle.meaning.specs.Calls.{judge-witness}
@@ -27,9 +27,9 @@ pub record Input : Type 0 where
   pub bytes : List ℕ
   pub right : WitnessAnswer
 
--- The answer that document 01 lays down.
+-- The answer that the documents lay down.
 unfoldable pub laid-down : Input → Answer
-unfolding header-words inputs-limit latches-limit gates-limit nodes-limit bound-limit judge-witness problem-by problem values next-values formula run
+unfolding header-words inputs-limit latches-limit gates-limit nodes-limit bound-limit constraints-limit judge-witness problem-by problem values next-values meets-constraints formula run
 laid-down x = judge-witness (x .version) (x .words) (x .bytes)
 
 -- This answer meets the promise for the input, or does not.

@@ -15,3 +15,4 @@ pub mod Judging
 pub mod Unique
 pub mod Lazy
 pub mod LazyRuns
+pub mod LazyConstraints

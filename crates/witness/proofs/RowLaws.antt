@@ -1,17 +1,18 @@
--- Laws of a table of rows: what a store leaves as it was, and the next values of a row. Assumes nothing.
-use mathlib.Core.Path.{_≡_, sym, _∙_, ap}
+-- Laws of a table of rows: what a store leaves as it was, and the next values and the constraints of a row. Assumes nothing.
+use mathlib.Core.Path.{_≡_, refl, sym, _∙_, ap, ap₂}
 use mathlib.Core.Logic.{_⊎_, inl, inr}
-use mathlib.Core.Bool.{Bool, false}
+use mathlib.Core.Bool.{Bool, false, _&&_}
 use mathlib.Core.List.{List, [], _∷_, _++_}
-use Prim.Native.Nat.{ℕ, zero, suc, _+_, _*_, _/_, _<_, _≤_}
+use Prim.Native.Nat.{ℕ, zero, suc, _+_, _*_, _/_, _<_, _≤_, zero-le, suc-le-suc}
 use native.Mathlib.Nat.{zero-add, suc-add, eq-or-lt-of-le, mul-le-mul-right}
 use native.Mathlib.Omega.{arith}
 use lib.ListN.{length, take, drop, getD, length-map}
 use lib.Seq.{take-take, take-nil, take-at, drop-at, getD-take, length-take-le, ext-getD}
+use Rattle.clauses.specs.Lists.{all-of}
 use Rattle.meaning.specs.Limits.{inputs-limit, latches-limit, gates-limit, bound-limit}
-use Rattle.meaning.specs.Problem.{Problem, Latch, W, latch}
+use Rattle.meaning.specs.Problem.{Problem, Latch, W, latch, constraint}
 use Rattle.meaning.specs.Proper.{Proper}
-use Rattle.meaning.specs.Runs.{literal-value, next-values}
+use Rattle.meaning.specs.Runs.{literal-value, next-values, meets-constraints}
 use Rattle.meaning.specs.Witnesses.{position, rows}
 use Rattle.pairing.proofs.Gates.{same-literal}
 use Rattle.pairing.proofs.Rows.{next-by-row}
@@ -38,6 +39,11 @@ module _ {A : Type 0} where
   -- And what is put there stands there.
   pub put-there : (n m : ℕ) (l l′ xs : List A) → n ≤ length l → take (n + m) l′ ≡ take n l ++ xs → take m (drop n l′) ≡ xs
   put-there n m l l′ xs h e = part-of-take n m l′ ∙ ap (drop n) e ∙ drop-at (take n l) xs n (length-take-le n l h)
+
+  -- Tests that agree on each element agree on the list.
+  pub all-of-same : (f g : A → Bool) (xs : List A) (d : A) → ((i : ℕ) → i < length xs → f (getD xs i d) ≡ g (getD xs i d)) → all-of f xs ≡ all-of g xs
+  all-of-same f g [] d h = refl
+  all-of-same f g (x ∷ xs) d h = ap₂ _&&_ (h 0 (suc-le-suc zero-le)) (all-of-same f g xs d (λ i l. h (suc i) (suc-le-suc l)))
 
 -- ════════ Rows ════════
 
@@ -88,6 +94,13 @@ module _ {p : Problem} {bs : List ℕ} {n : ℕ} {table : List Bool} (right : Ro
         ext-getD false (next-in p (row-in table t)) (next-in p (rows p bs t))
         (length-next-in p (row-in table t) ∙ sym (length-next-in p (rows p bs t)))
         (λ i q. let q′ : i < length (p .latches) = rw length-next-in at q in next-by-row p (row-in table t) i q′ ∙ next-value-in i q′)
+
+    -- The row meets the constraints exactly where the position does.
+    pub constraints-in-row : all-of (literal-value (row-in table t)) (p .constraints) ≡ meets-constraints p (position p bs t)
+    unfolding meets-constraints
+    constraints-in-row =
+        all-of-same (literal-value (row-in table t)) (literal-value (rows p bs t)) (p .constraints) 1
+        (λ c q. literal-in-row h (constraint p c) (proper .constraints-in-range c q))
 
   -- One row more.
   pub one-more-row : Proper p → {table′ : List Bool} → length table′ ≡ length table → n ≤ bound-limit

@@ -10,24 +10,29 @@ use Rattle.witness.specs.declared.WitnessAnswer.{WitnessAnswer}
 use Rattle.witness.specs.declared.WitnessAnswer.the-variants as answers
 use Rattle.witness.specs.Promise.{answer-of}
 
--- The answer of each number up to that of a false formula; none has number 6, and past them only the version is left.
+abbrev yes : ℕ → WitnessAnswer
+yes p = answers.Yes
+
+-- The answer of each number up to the version's; none has number 6 or 11 to 14, and past them only a broken constraint is left.
 abbrev by-number : List (ℕ → WitnessAnswer)
 by-number =
-    (λ p. answers.Yes)
+    yes
     ∷ (λ p. answers.Problem (BadLength p))
     ∷ (λ p. answers.Problem (OutsideLimits p))
     ∷ (λ p. answers.Problem (BadReset p))
     ∷ (λ p. answers.Problem (BadLiteral p))
     ∷ (λ p. answers.Problem (BadNode p))
-    ∷ (λ p. answers.Yes)
+    ∷ yes
     ∷ answers.BadWitness
     ∷ answers.AgainstReset
     ∷ answers.OpenLoop
     ∷ (λ p. answers.FormulaFalse)
+    ∷ yes ∷ yes ∷ yes ∷ yes
+    ∷ (λ p. answers.Problem BadVersion)
     ∷ []
 
 abbrev answer-back : Answer → WitnessAnswer
-answer-back a = getD by-number (a .number) (λ p. answers.Problem BadVersion) (a .place)
+answer-back a = getD by-number (a .number) answers.ConstraintBroken (a .place)
 
 answer-back-of : (r : WitnessAnswer) → answer-back (answer-of r) ≡ r
 answer-back-of answers.Yes = refl
@@ -40,6 +45,7 @@ answer-back-of (answers.Problem (BadNode i)) = refl
 answer-back-of (answers.BadWitness i) = refl
 answer-back-of (answers.AgainstReset i) = refl
 answer-back-of (answers.OpenLoop i) = refl
+answer-back-of (answers.ConstraintBroken t) = refl
 answer-back-of answers.FormulaFalse = refl
 
 pub judgement-unique : (version : ℕ) (ws bs : List ℕ) (r r′ : WitnessAnswer) → answer-of r ≡ judge-witness version ws bs

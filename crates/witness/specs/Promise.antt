@@ -1,23 +1,24 @@
--- The judge's answers as document 01's, and what the judge and its parts promise. Assumes nothing.
+-- The judge's answers as the documents', and what the judge and its parts promise. Assumes nothing.
 use mathlib.Core.List.{List}
 use mathlib.Core.Path.{_≡_}
 use Prim.Native.Nat.{ℕ}
 use lib.Dec.{leb}
 use Rattle.clauses.specs.Answers.{Answer, Check, check, first-failing, granted}
-use Rattle.meaning.specs.Answers.{bad-witness, against-reset, open-loop, formula-false}
+use Rattle.meaning.specs.Answers.{bad-witness, against-reset, open-loop, constraint-broken, formula-false}
 use Rattle.meaning.specs.Problem as problems
 use Rattle.meaning.specs.Witnesses.{byte-limit}
 use Rattle.problem.specs.Promise.{refusal-answer}
 use Rattle.witness.specs.declared.WitnessAnswer.{WitnessAnswer}
-use Rattle.witness.specs.declared.WitnessAnswer.the-variants.{Yes, Problem, BadWitness, AgainstReset, OpenLoop, FormulaFalse}
+use Rattle.witness.specs.declared.WitnessAnswer.the-variants.{Yes, Problem, BadWitness, AgainstReset, OpenLoop, ConstraintBroken, FormulaFalse}
 
--- Document 01's number and place of each refusal; a yes leaves the answer to what comes after.
+-- The documents' number and place of each refusal; a yes leaves the answer to what comes after.
 abbrev pub answer-then : WitnessAnswer → Answer → Answer
 answer-then Yes after = after
 answer-then (Problem f) after = refusal-answer f
 answer-then (BadWitness i) after = bad-witness i
 answer-then (AgainstReset i) after = against-reset i
 answer-then (OpenLoop i) after = open-loop i
+answer-then (ConstraintBroken t) after = constraint-broken t
 answer-then FormulaFalse after = formula-false 0
 
 abbrev pub answer-of : WitnessAnswer → Answer

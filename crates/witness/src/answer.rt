@@ -1,4 +1,4 @@
-// Document 01's number and place of each answer to a witness.
+// The documents' number and place of each answer to a witness.
 use crate::WitnessAnswer;
 use problem::answer::refusal_number;
 use problem::answer::refusal_place;
@@ -14,6 +14,7 @@ pub fn number(a: WitnessAnswer) -> u32
         WitnessAnswer::BadWitness(_) => 7,
         WitnessAnswer::AgainstReset(_) => 8,
         WitnessAnswer::OpenLoop(_) => 9,
+        WitnessAnswer::ConstraintBroken(_) => 20,
         WitnessAnswer::FormulaFalse => 10,
     }
 }
@@ -27,6 +28,7 @@ pub fn place(a: WitnessAnswer) -> usize
         WitnessAnswer::BadWitness(i) => i,
         WitnessAnswer::AgainstReset(i) => i,
         WitnessAnswer::OpenLoop(i) => i,
+        WitnessAnswer::ConstraintBroken(t) => t,
         WitnessAnswer::FormulaFalse => 0,
     }
 }

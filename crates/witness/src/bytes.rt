@@ -1,9 +1,10 @@
-// The checks of a witness's bytes, of its first latches and of its loop, in document 01's order.
+// The checks of a witness's bytes, of its first latches, of its loop and of its positions, in the documents' order.
 use crate::WitnessAnswer;
 use crate::rows::INPUTS_AT;
 use crate::rows::LATCHES_AT;
 use crate::rows::ROW_WIDTH;
 use crate::rows::TRUE;
+use crate::rows::meets_constraints;
 use crate::rows::next_value;
 use problem::Outline;
 use problem::read::latch_reset;
@@ -15,9 +16,9 @@ ghost use lib.ListN.{length};
 ghost use Rattle.clauses.specs.Lists.{numbered};
 ghost use Rattle.meaning.specs.Limits.{inputs-limit, bound-limit};
 ghost use Rattle.meaning.specs.Runs.{meets-reset};
-ghost use Rattle.meaning.specs.Witnesses.{witness-length, byte-limit, byte-checks, reset-checks, loop-checks, shape};
+ghost use Rattle.meaning.specs.Witnesses.{witness-length, byte-limit, byte-checks, reset-checks, loop-checks, position-checks, shape};
 ghost use Rattle.problem.specs.Promise.{problem-in};
-ghost use Rattle.witness.specs.Tables.{RunShown};
+ghost use Rattle.witness.specs.Tables.{RunShown, rows-room};
 ghost use Rattle.witness.specs.Promise.{AnsweredBy, byte-check};
 
 fn witness_length(s: Outline) -> usize
@@ -110,6 +111,23 @@ pub(crate) fn closes(words: &[u32], s: Outline, witness: &[u8], table: &[bool]) 
             return WitnessAnswer::OpenLoop(i as usize);
         }
         i += 1;
+    }
+    WitnessAnswer::Yes
+}
+
+// 20: the first position at which a constraint is false, of whatever witness shows the table.
+pub(crate) fn constraints(words: &[u32], s: Outline, table: &[bool]) -> WitnessAnswer
+    requires { ⌜ (s .bound ≤ bound-limit) × (length (now table) ≡ rows-room) ⌝ }
+    ensures { λ r. ⌜ ((bs : List ℕ) → RunShown s (now (words .entry)) bs (now (table .entry)) → AnsweredBy (position-checks (problem-in s (now (words .entry))) bs) r) ⌝ }
+{
+    let mut t: u32 = 0;
+    while t <= s.bound {
+        let from = (t as usize) * ROW_WIDTH;
+        let to = from + ROW_WIDTH;
+        if !meets_constraints(words, s, &table[from..to]) {
+            return WitnessAnswer::ConstraintBroken(t as usize);
+        }
+        t += 1;
     }
     WitnessAnswer::Yes
 }

@@ -1,7 +1,8 @@
-// The judge of a witness: the problem's checks, then 7 to 10, in document 01's order.
+// The judge of a witness: the problem's checks, then 7 to 10, with 20 after 9 and before 10.
 use crate::WitnessAnswer;
 use crate::bytes::bytes_right;
 use crate::bytes::closes;
+use crate::bytes::constraints;
 use crate::bytes::resets;
 use crate::nodes::formula_value;
 use crate::rows::ROWS;
@@ -11,20 +12,24 @@ use problem::Outline;
 use problem::check::check;
 ghost use mathlib.Core.List.{_++_};
 ghost use mathlib.Core.Path.{_≡_};
-ghost use Rattle.meaning.specs.Witnesses.{shape, loop-checks, formula-checks};
+ghost use Rattle.meaning.specs.Witnesses.{shape, loop-checks, position-checks, formula-checks};
 ghost use Rattle.meaning.specs.Calls.{judge-bytes, judge-witness};
 ghost use Rattle.problem.specs.Promise.{problem-in, ProperIn};
 ghost use Rattle.witness.specs.Tables.{RunShown};
 ghost use Rattle.witness.specs.Promise.{AnsweredBy, answer-of};
 
-// 9 and 10, off the table of the run.
+// 9, 20 and 10, off the table of the run.
 fn shown(words: &[u32], s: Outline, witness: &[u8], table: &[bool]) -> WitnessAnswer
     requires { ⌜ RunShown s (now words) (now witness) (now table) ⌝ }
-    ensures { λ r. ⌜ AnsweredBy (loop-checks (problem-in s (now (words .entry))) (now (witness .entry)) (shape (now (witness .entry))) ++ formula-checks (problem-in s (now (words .entry))) (now (witness .entry))) r ⌝ }
+    ensures { λ r. ⌜ AnsweredBy (loop-checks (problem-in s (now (words .entry))) (now (witness .entry)) (shape (now (witness .entry))) ++ (position-checks (problem-in s (now (words .entry))) (now (witness .entry)) ++ formula-checks (problem-in s (now (words .entry))) (now (witness .entry)))) r ⌝ }
 {
     let by_loop = closes(words, s, witness, table);
     let WitnessAnswer::Yes = by_loop else {
         return by_loop;
+    };
+    let by_constraints = constraints(words, s, table);
+    let WitnessAnswer::Yes = by_constraints else {
+        return by_constraints;
     };
     let first = witness[0] as usize;
     if !formula_value(words, s, first, table) {
@@ -33,7 +38,7 @@ fn shown(words: &[u32], s: Outline, witness: &[u8], table: &[bool]) -> WitnessAn
     WitnessAnswer::Yes
 }
 
-// 7 to 10, of a good problem.
+// 7, 8, 9, 20, 10, of a good problem.
 fn judge_good(words: &[u32], s: Outline, witness: &[u8]) -> WitnessAnswer
     requires { ⌜ ProperIn s (now words) ⌝ }
     ensures { λ r. ⌜ answer-of r ≡ judge-bytes (problem-in s (now (words .entry))) (now (witness .entry)) ⌝ }
@@ -51,7 +56,7 @@ fn judge_good(words: &[u32], s: Outline, witness: &[u8]) -> WitnessAnswer
     shown(words, s, witness, &table)
 }
 
-// 15, 1 to 5, 7 to 10, or yes.
+// 15, 1 to 5, 7 to 10 and 20, or yes.
 pub fn judge(version: u32, words: &[u32], witness: &[u8]) -> WitnessAnswer
     ensures { λ r. ⌜ answer-of r ≡ judge-witness version (now (words .entry)) (now (witness .entry)) ⌝ }
 {

@@ -7,12 +7,13 @@ pub mod judge;
 pub mod nodes;
 pub mod rows;
 
-// Document 01's answers to a witness; `answer` gives the number and the place of each.
+// The documents' answers to a witness; `answer` gives the number and the place of each.
 pub enum WitnessAnswer {
     Yes,
     Problem(Refusal),
     BadWitness(usize),
     AgainstReset(usize),
     OpenLoop(usize),
+    ConstraintBroken(usize),
     FormulaFalse,
 }

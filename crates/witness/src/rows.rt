@@ -4,6 +4,7 @@ use problem::limits::BOUND_LIMIT;
 use problem::limits::GATES_LIMIT;
 use problem::limits::INPUTS_LIMIT;
 use problem::limits::LATCHES_LIMIT;
+use problem::read::constraint;
 use problem::read::gate_left;
 use problem::read::gate_place;
 use problem::read::gate_right;
@@ -13,6 +14,7 @@ ghost use mathlib.Core.Bool.{false};
 ghost use mathlib.Core.List.{List, _∷_, _++_};
 ghost use Prim.Native.Nat.{ℕ, _+_, _*_, _-_, _<_, _≤_, min};
 ghost use lib.ListN.{length, take, drop, set};
+ghost use Rattle.clauses.specs.Lists.{all-of};
 ghost use Rattle.meaning.specs.Problem.{latch, gate};
 ghost use Rattle.meaning.specs.Runs.{literal-value, gate-value};
 ghost use Rattle.meaning.specs.Witnesses.{bits, witness-length, inputs-at, position};
@@ -46,6 +48,20 @@ pub fn literal(row: &[bool], x: u32) -> bool
     let v = (x / 2) as usize;
     let odd = x % 2 == 1;
     if v < row.len() { row[v] != odd } else { odd }
+}
+
+// Whether every constraint is true in a row.
+pub fn meets_constraints(words: &[u32], s: Outline, row: &[bool]) -> bool
+    ensures { λ r. ⌜ r ≡ all-of (literal-value (now (row .entry))) (problem-in s (now (words .entry)) .constraints) ⌝ }
+{
+    let mut c: u32 = 0;
+    while c < s.constraints {
+        if !literal(row, constraint(words, s, c)) {
+            return false;
+        }
+        c += 1;
+    }
+    true
 }
 
 // "A gate is the AND of two literals". Whether the words reach past the gates is the same for every gate, so the test leaves the loop over

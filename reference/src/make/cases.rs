@@ -102,16 +102,16 @@ pub fn requests(random: &mut Random, count: usize) -> Vec<Request> {
         let mut problems: Vec<Vec<u32>> = counts().into_iter().map(|case| case.0).collect();
         problems.push(T.to_vec());
         for words in TWO_FAULTS {
-            calls(random, 1, words, &mut out);
+            calls(random, 1, 1, words, &mut out);
         }
         for words in problems {
-            every_witness(random, &words, &mut out);
-            calls(random, 1, &words, &mut out);
-            calls(random, 2, &words, &mut out);
-            every_room(&words, &mut out);
+            every_witness(random, 1, &words, &mut out);
+            calls(random, 1, 1, &words, &mut out);
+            calls(random, 2, 1, &words, &mut out);
+            every_room(1, &words, &mut out);
         }
         for words in TWO_FAULTS {
-            every_room(words, &mut out);
+            every_room(1, words, &mut out);
         }
     }
     out

@@ -12,19 +12,19 @@ const SOME: [usize; 8] = [2, 3, 4, 5, 6, 7, 8, 9];
 const MORE: [usize; 5] = [10, 11, 12, 13, 14];
 const PAST: [usize; 6] = [17, 17, 18, 19, 24, 40];
 
-pub fn find(problem: &[u32], room: usize) -> Request {
-    Request::Find { version: 1, problem: problem.to_vec(), room: room as u32 }
+pub fn find(version: u32, problem: &[u32], room: usize) -> Request {
+    Request::Find { version, problem: problem.to_vec(), room: room as u32 }
 }
 
 /// The bytes of a good problem's witness; of other words, some number.
-fn needed(words: &[u32]) -> usize {
-    check(1, words).map_or(4, |problem| problem.witness_length())
+pub fn needed(version: u32, words: &[u32]) -> usize {
+    check(version, words).map_or(4, |problem| problem.witness_length())
 }
 
 /// Call 6 with no room, with one byte too few, with just enough, and with more.
-pub fn every_room(words: &[u32], out: &mut Vec<Request>) {
-    let needed = needed(words);
-    out.extend([0, needed - 1, needed, needed + 3].map(|room| find(words, room)));
+pub fn every_room(version: u32, words: &[u32], out: &mut Vec<Request>) {
+    let needed = needed(version, words);
+    out.extend([0, needed - 1, needed, needed + 3].map(|room| find(version, words, room)));
 }
 
 /// Problem `number` of those that call 6 is tried on.
@@ -51,12 +51,12 @@ pub fn requests(random: &mut Random, count: usize) -> Vec<Request> {
     let mut out = Vec::new();
     for number in 0..count {
         let words = subject(random, number);
-        let needed = needed(&words);
-        out.push(find(&words, needed + random.pick(&[0, 0, 1, 9])));
-        out.push(find(&words, random.pick(&[0, needed / 2, needed - 1, needed - 1])));
+        let needed = needed(1, &words);
+        out.push(find(1, &words, needed + random.pick(&[0, 0, 1, 9])));
+        out.push(find(1, &words, random.pick(&[0, needed / 2, needed - 1, needed - 1])));
         let mut worse = words.clone();
-        damage(random, &mut worse);
-        out.push(find(&worse, random.below(needed + 4)));
+        damage(random, 1, &mut worse);
+        out.push(find(1, &worse, random.below(needed + 4)));
         if number % 20 == 10 {
             let version = random.pick(&[0, 2, 3, 255, 256, 257, 1 << 24, 1 << 24 | 1, u32::MAX]);
             for problem in [words, worse] {

@@ -8,13 +8,13 @@ use crate::problem::{AND, ATOM, FINALLY, GLOBALLY, NEXT};
 use crate::requests::{Request, PROBLEM_WORDS, WITNESS_BYTES};
 
 /// Inputs, latches, how many of those are free, gates and k; each latch keeps its value.
-struct Sizes(u32, u32, u32, u32, u32);
+pub struct Sizes(pub u32, pub u32, pub u32, pub u32, pub u32);
 
 /// Formulas over atom 0, that all open bits are on, and atom 1, that one is not.
-const ALWAYS: &[[u32; 3]] = &[[GLOBALLY, 0, 0]];
-const ONCE: &[[u32; 3]] = &[[FINALLY, 0, 0]];
+pub const ALWAYS: &[[u32; 3]] = &[[GLOBALLY, 0, 0]];
+pub const ONCE: &[[u32; 3]] = &[[FINALLY, 0, 0]];
 const THEN_NOT: &[[u32; 3]] = &[[NEXT, 1, 0], [AND, 0, 2]];
-const NEVER: &[[u32; 3]] = &[[GLOBALLY, 0, 0], [FINALLY, 1, 0], [AND, 2, 3]];
+pub const NEVER: &[[u32; 3]] = &[[GLOBALLY, 0, 0], [FINALLY, 1, 0], [AND, 2, 3]];
 
 /// Sixteen open bits, as inputs, latches or both, and W as large as it may then be; six in the longest run.
 const SEARCHED: [(Sizes, &[[u32; 3]]); 11] = [
@@ -42,7 +42,7 @@ const PAST: [Sizes; 6] = [
 ];
 
 /// The gates join all inputs and latches, so that the last is on where each open bit is on.
-fn all_on(sizes: &Sizes, nodes: &[[u32; 3]]) -> Vec<u32> {
+pub fn all_on(sizes: &Sizes, nodes: &[[u32; 3]]) -> Vec<u32> {
     let &Sizes(inputs, latches, free, gates, k) = sizes;
     let mut words = vec![inputs, latches, gates, nodes.len() as u32 + 2, k];
     let mut joined: Vec<u32> = (1..=inputs).map(|input| 2 * input).collect();
@@ -67,17 +67,17 @@ fn all_on(sizes: &Sizes, nodes: &[[u32; 3]]) -> Vec<u32> {
 
 pub fn requests(out: &mut Vec<Request>) {
     for (sizes, nodes) in &SEARCHED {
-        out.push(find(&all_on(sizes, nodes), WITNESS_BYTES as usize));
+        out.push(find(1, &all_on(sizes, nodes), WITNESS_BYTES as usize));
     }
     for sizes in &PAST {
-        every_room(&all_on(sizes, ONCE), out);
+        every_room(1, &all_on(sizes, ONCE), out);
     }
-    every_room(&all_limits(), out);
+    every_room(1, &all_limits(), out);
     let (room, f_12) = (WITNESS_BYTES as usize, [0, 12, 0, 4, 0, 0]);
     for words in [T.to_vec(), counter(2, &f_12), counter(3, &f_12), counter(31, &f_12)] {
-        out.push(find(&words, room));
+        out.push(find(1, &words, room));
     }
     let mut longest = all_limits();
     longest.resize(PROBLEM_WORDS as usize, 0);
-    out.push(find(&longest, room));
+    out.push(find(1, &longest, room));
 }

@@ -8,6 +8,10 @@ use crate::problem::{check, MOST, RELEASE, UNTIL};
 use crate::random::Random;
 use crate::requests::{Request, AREA_WORDS, CNF_WORDS, PROBLEM_WORDS, WITNESS_BYTES};
 
+/// All limits of version 1.
+const LARGEST: Head =
+    [MOST[0] as usize, MOST[1] as usize, MOST[2] as usize, MOST[3] as usize, MOST[4] as usize];
+
 /// Shapes whose CNF is long and mostly still fits.
 const LONG: [Head; 10] = [
     [64, 0, 0, 1, 31],
@@ -26,7 +30,7 @@ const LONG: [Head; 10] = [
 pub fn all_limits() -> Vec<u32> {
     let (inputs, latches, gates, nodes) = (MOST[0], MOST[1], MOST[2], MOST[3]);
     let width = inputs + latches + gates;
-    let mut words = MOST.to_vec();
+    let mut words = MOST[..5].to_vec();
     for latch in 0..latches {
         words.extend([2 * width + 1, latch % 2]);
     }
@@ -71,22 +75,22 @@ fn each_limit(random: &mut Random, out: &mut Vec<Request>) {
             let mut head: Head = [1, 1, 1, 2, 1];
             head[place] = MOST[place] as usize + past;
             let words = words(random, head);
-            calls(random, 1, &words, out);
-            every_room(&words, out);
+            calls(random, 1, 1, &words, out);
+            every_room(1, &words, out);
         }
     }
     let none = words(random, [1, 1, 1, 0, 1]);
-    calls(random, 1, &none, out);
-    every_room(&none, out);
+    calls(random, 1, 1, &none, out);
+    every_room(1, &none, out);
 }
 
 /// Single words of a problem at all limits set to what is just allowed, just not, and the largest.
 fn words_of_largest(random: &mut Random, out: &mut Vec<Request>) {
-    let good = words(random, MOST.map(|limit| limit as usize));
+    let good = words(random, LARGEST);
     for _ in 0..60 {
         let from = random.pick(&[0, 5, 133, 2181]);
         let place = random.between(from, good.len() - 1);
-        let most = most(&good, place);
+        let most = most(1, &good, place);
         let mut problem = good.clone();
         problem[place] = random.pick(&[most, most + 1, u32::MAX]);
         out.push(Request::Check { version: 1, problem });
@@ -152,7 +156,7 @@ pub fn requests(random: &mut Random, count: usize) -> Vec<Request> {
         words_of_largest(random, &mut out);
         for head in LONG {
             let words = words(random, head);
-            calls(random, 1, &words, &mut out);
+            calls(random, 1, 1, &words, &mut out);
         }
     }
     out

@@ -5,6 +5,7 @@ mod bare;
 mod broken;
 mod cases;
 pub mod circuits;
+pub mod constraints;
 mod damage;
 mod find;
 mod find_limits;
@@ -33,7 +34,8 @@ pub use text_limits::largest;
 pub use trivial::variants;
 
 /// The requests of a kind. COUNT counts CNFs for `cnf` and `trivial`, problems for `problem`, `witness`,
-/// `refute` and `find`, circuits for `aiger`, rounds for `limits`, `cases` and `texts`.
+/// `refute` and `find`, circuits for `aiger`, rounds for `limits`, `cases` and `texts`; for a kind with constraints
+/// what it counts for the one without.
 pub fn requests(seed: u64, kind: &str, count: usize) -> Option<Vec<Request>> {
     let mut random = Random::new(seed);
     let random = &mut random;
@@ -48,7 +50,7 @@ pub fn requests(seed: u64, kind: &str, count: usize) -> Option<Vec<Request>> {
         "trivial" => Some(trivial::requests(random, count)),
         "aiger" => Some(aiger::requests(random, count)),
         "texts" => Some(texts::requests(random, count)),
-        _ => None,
+        _ => constraints::requests(random, kind, count),
     }
 }
 

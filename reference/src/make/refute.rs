@@ -10,7 +10,8 @@ use crate::splitting::{refute, words, Step};
 use crate::{cnf, witness};
 
 pub struct Subject {
-    problem: Vec<u32>,
+    version: u32,
+    pub problem: Vec<u32>,
     variables: usize,
     clauses: usize,
     room: usize,
@@ -25,9 +26,14 @@ impl Subject {
 
 /// A small problem without a witness and a refutation of its CNF.
 pub fn subject(random: &mut Random) -> Subject {
+    refuted(random, 1, |random| small(random, 6))
+}
+
+/// The first of these problems of a version that has no witness, and a refutation of its CNF.
+pub fn refuted(random: &mut Random, version: u32, make: impl Fn(&mut Random) -> Vec<u32>) -> Subject {
     loop {
-        let problem = small(random, 6);
-        let read = check(1, &problem).expect("made well formed");
+        let problem = make(random);
+        let read = check(version, &problem).expect("made well formed");
         if !witness::all(&read).is_empty() {
             continue;
         }
@@ -35,7 +41,7 @@ pub fn subject(random: &mut Random) -> Subject {
         let clauses = cnf::clauses(&cnf);
         if let Some(steps) = refute(random, &clauses, 200) {
             let (variables, clauses) = (cnf::variables(&read), clauses.len());
-            return Subject { problem, variables, clauses, room: cnf.len(), steps };
+            return Subject { version, problem, variables, clauses, room: cnf.len(), steps };
         }
     }
 }
@@ -44,7 +50,7 @@ pub fn subject(random: &mut Random) -> Subject {
 pub fn request(random: &mut Random, subject: &Subject, refutation: Vec<i32>, whole: bool) -> Request {
     let mut sized = |needed: usize| if whole { needed as u32 } else { size(random, needed) };
     Request::Refutation {
-        version: 1,
+        version: subject.version,
         problem: subject.problem.clone(),
         room: sized(subject.room),
         by_numbers: sized(subject.variables + 1),

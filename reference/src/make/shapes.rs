@@ -1,7 +1,7 @@
-//! Random well-formed problems.
+//! Random well-formed problems of version 1.
 
 use crate::finder::{open_bits, MOST_OPEN};
-use crate::problem::{check, guard, CHILDREN, FINALLY, GLOBALLY, MOST, NEXT};
+use crate::problem::{check, header, Parts, CHILDREN, FINALLY, GLOBALLY, MOST, NEXT};
 use crate::random::Random;
 
 /// The numbers I, L, A, N, k of a problem.
@@ -157,10 +157,11 @@ pub fn topped(random: &mut Random, mut words: Vec<u32>) -> Vec<u32> {
     words
 }
 
-/// The largest value that word `place` of well-formed words may have.
-pub fn most(words: &[u32], place: usize) -> u32 {
-    if place < 5 {
+/// The largest value that word `place` of well-formed words of a version may have.
+pub fn most(version: u32, words: &[u32], place: usize) -> u32 {
+    let header = header(version).expect("a known version");
+    if place < header {
         return MOST[place];
     }
-    guard(words, place).1.max(0) as u32
+    Parts::new(header, words).guard(words, place).1.max(0) as u32
 }

@@ -28,13 +28,13 @@ fn damaged(random: &mut Random, good: &[u8], k: usize) -> Vec<Vec<u8>> {
 }
 
 /// Every candidate of the problem, and damage to a random one.
-pub fn every_witness(random: &mut Random, words: &[u32], out: &mut Vec<Request>) {
-    let problem = check(1, words).expect("made well formed");
+pub fn every_witness(random: &mut Random, version: u32, words: &[u32], out: &mut Vec<Request>) {
+    let problem = check(version, words).expect("made well formed");
     let mut all = candidates(&problem);
     let one = all[random.below(all.len())].clone();
     all.extend(damaged(random, &one, problem.k));
     for witness in all {
-        out.push(Request::Witness { version: 1, problem: words.to_vec(), witness });
+        out.push(Request::Witness { version, problem: words.to_vec(), witness });
     }
 }
 
@@ -42,7 +42,7 @@ pub fn requests(random: &mut Random, count: usize) -> Vec<Request> {
     let mut out = Vec::new();
     for _ in 0..count {
         let words = if random.one_in(3) { small(random, 5) } else { looping(random) };
-        every_witness(random, &words, &mut out);
+        every_witness(random, 1, &words, &mut out);
     }
     out
 }

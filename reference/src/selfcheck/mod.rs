@@ -1,6 +1,7 @@
 //! Checks of this program on itself: the document's figures, and the CNF against the meaning.
 
 mod aiger;
+mod constraints;
 
 use crate::answers::{self, judge_problem_refutation};
 use crate::make::{self, shapes};
@@ -42,8 +43,8 @@ fn witness_of(problem: &Problem, model: &[bool]) -> Vec<u8> {
 
 /// The models stand for the witnesses, each for one and each witness for one; the finder has the first of all
 /// candidates that the judge accepts, and has none exactly if there is no model.
-fn models_are_witnesses(tally: &mut Tally, words: &[u32]) -> usize {
-    let problem = check(1, words).expect("made well formed");
+fn models_are_witnesses(tally: &mut Tally, version: u32, words: &[u32]) -> usize {
+    let problem = check(version, words).expect("made well formed");
     let cnf = cnf::words(&problem);
     let models = models::all(cnf::variables(&problem), &cnf::clauses(&cnf));
     let mut read: Vec<Vec<u8>> = models.iter().map(|model| witness_of(&problem, model)).collect();
@@ -65,7 +66,7 @@ fn finds_the_first(tally: &mut Tally, random: &mut Random) {
         let words = make::subject(random, number);
         let problem = check(1, &words).expect("made well formed");
         if problem.witness_length() <= 13 {
-            models_are_witnesses(tally, &words);
+            models_are_witnesses(tally, 1, &words);
             tried += 1;
         }
     }
@@ -91,10 +92,10 @@ fn found_figures(tally: &mut Tally) {
 }
 
 fn figures(tally: &mut Tally) {
-    let text = job::text(&job::file(&make::T));
+    let text = job::text(&job::file(1, &make::T));
     tally.expect(text == T_TEXT, || format!("the text of T is {text}"));
     for (words, count) in make::counts() {
-        let found = models_are_witnesses(tally, &words);
+        let found = models_are_witnesses(tally, 1, &words);
         tally.expect(found == count, || format!("{words:?}: {found} witnesses, not {count}"));
     }
     let largest = check(1, &make::all_limits()).expect("all limits are allowed");
@@ -174,20 +175,45 @@ fn refutations(tally: &mut Tally, random: &mut Random) {
     }
 }
 
-/// The answers that each call can give.
-const ANSWERS: [&[u32]; 8] = [
-    &[0, 1, 2, 3, 4, 5, 15],
-    &[0, 1, 2, 3, 4, 5, 6, 15],
-    &[0, 1, 2, 3, 4, 5, 7, 8, 9, 10, 15],
-    &[0, 11, 12, 13, 14, 16],
-    &[0, 1, 2, 3, 4, 5, 6, 11, 12, 13, 14, 15],
-    &[0, 1, 2, 3, 4, 5, 15, 17, 18, 29],
-    &[0, 19, 27],
-    &[0, 1, 2, 3, 4, 27],
+/// The answers that each call can give, those about a problem for version 1.
+const ANSWERS: [(u8, &[u32]); 8] = [
+    (1, &[0, 1, 2, 3, 4, 5, 15]),
+    (2, &[0, 1, 2, 3, 4, 5, 6, 15]),
+    (3, &[0, 1, 2, 3, 4, 5, 7, 8, 9, 10, 15]),
+    (4, &[0, 11, 12, 13, 14, 16]),
+    (5, &[0, 1, 2, 3, 4, 5, 6, 11, 12, 13, 14, 15]),
+    (6, &[0, 1, 2, 3, 4, 5, 15, 17, 18, 29]),
+    (7, &[0, 19, 27]),
+    (8, &[0, 1, 2, 3, 4, 27]),
 ];
 
-/// The requests made from the seed lead each call to each of its answers, and to no other.
-fn requests_reach_all(tally: &mut Tally, seed: u64) {
+const KINDS: [(&str, usize); 7] = [
+    ("trivial", 100),
+    ("cnf", 250),
+    ("problem", 1_000),
+    ("witness", 20),
+    ("refute", 20),
+    ("find", 1_000),
+    ("aiger", 500),
+];
+
+/// The requests of these kinds made from the seed lead each call to each of its answers, and to no other.
+fn requests_reach(tally: &mut Tally, seed: u64, kinds: &[(&str, usize)], answers: &[(u8, &[u32])]) {
+    let made = kinds.iter().flat_map(|(kind, count)| make::requests(seed, kind, *count).expect("a kind"));
+    let times = answers::tally(&made.collect::<Vec<_>>());
+    for &(call, wanted) in answers {
+        let mut found: Vec<u32> = times.keys().filter(|key| key.0 == call).map(|key| key.1).collect();
+        found.dedup();
+        tally.expect(found == wanted, || format!("call {call} has the answers {found:?}"));
+    }
+    for (sort, least) in [(Some(0), 100), (Some(1), 100), (Some(2), 10), (Some(3), 5)] {
+        let times = times.get(&(6, 0, sort)).map_or(0, Vec::len);
+        tally.expect(times > least, || format!("the first byte {sort:?} is found {times} times"));
+    }
+}
+
+/// Steps that are trivially true lead to each of the answers that they can lead to.
+fn trivial_steps_reach(tally: &mut Tally, seed: u64) {
     let trivial = make::requests(seed, "trivial", 100).expect("a kind");
     let times = answers::tally(&trivial);
     for (call, least) in [(4, 100), (5, 20)] {
@@ -197,23 +223,6 @@ fn requests_reach_all(tally: &mut Tally, seed: u64) {
                 format!("trivial: call {call} has the answer {answer} {times} times")
             });
         }
-    }
-    let mut made = trivial;
-    let kinds =
-        [("cnf", 250), ("problem", 1_000), ("witness", 20), ("refute", 20), ("find", 1_000), ("aiger", 500)];
-    for (kind, count) in kinds {
-        made.extend(make::requests(seed, kind, count).expect("a kind"));
-    }
-    let times = answers::tally(&made);
-    for call in 1..=8 {
-        let mut found: Vec<u32> = times.keys().filter(|key| key.0 == call).map(|key| key.1).collect();
-        found.dedup();
-        let wanted = ANSWERS[call as usize - 1];
-        tally.expect(found == wanted, || format!("call {call} has the answers {found:?}"));
-    }
-    for (sort, least) in [(Some(0), 100), (Some(1), 100), (Some(2), 10), (Some(3), 5)] {
-        let times = times.get(&(6, 0, sort)).map_or(0, Vec::len);
-        tally.expect(times > least, || format!("the first byte {sort:?} is found {times} times"));
     }
 }
 
@@ -228,7 +237,7 @@ pub fn run(seed: u64) -> bool {
     for _ in 0..problems {
         let looping = random.one_in(2);
         let words = if looping { shapes::looping(&mut random) } else { shapes::small(&mut random, 8) };
-        if models_are_witnesses(&mut tally, &words) > 0 {
+        if models_are_witnesses(&mut tally, 1, &words) > 0 {
             with_witness += 1;
         }
     }
@@ -240,7 +249,9 @@ pub fn run(seed: u64) -> bool {
     }
     finds_the_first(&mut tally, &mut random);
     aiger::run(&mut tally, &mut random, seed);
-    requests_reach_all(&mut tally, seed);
+    constraints::run(&mut tally, &mut random, seed);
+    trivial_steps_reach(&mut tally, seed);
+    requests_reach(&mut tally, seed, &KINDS, &ANSWERS);
     println!("{} passed, {} failed", tally.passed, tally.failed);
     tally.failed == 0
 }

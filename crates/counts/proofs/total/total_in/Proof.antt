@@ -32,6 +32,12 @@ mul-gates-item c = omega (arith, small c)
 mul-gates-item-2 : tie.Need-mul-gates-item-2
 mul-gates-item-2 c = omega (arith, small c)
 
+mul-constraints-item : tie.Need-mul-constraints-item
+mul-constraints-item c = omega (arith, small c)
+
+mul-constraints-item-2 : tie.Need-mul-constraints-item-2
+mul-constraints-item-2 c = omega (arith, small c)
+
 mul-resets-item : tie.Need-mul-resets-item
 mul-resets-item c = omega (arith, small c)
 
@@ -104,6 +110,18 @@ mul-nodes-item-2 c = omega (arith, small c)
 add-nodes-item-3 : tie.Need-add-nodes-item-3
 add-nodes-item-3 c = omega (arith, small c)
 
+add-circuit : tie.Need-add-circuit
+add-circuit c = omega (arith, small c)
+
+add-circuit-2 : tie.Need-add-circuit-2
+add-circuit-2 c = omega (arith, small c)
+
+add-circuit-3 : tie.Need-add-circuit-3
+add-circuit-3 c = omega (arith, small c)
+
+add-circuit-4 : tie.Need-add-circuit-4
+add-circuit-4 c = omega (arith, small c)
+
 add-result : tie.Need-add-result
 add-result c = omega (arith, small c)
 
@@ -115,15 +133,6 @@ add-result-3 c = omega (arith, small c)
 
 add-result-4 : tie.Need-add-result-4
 add-result-4 c = omega (arith, small c)
-
-add-result-5 : tie.Need-add-result-5
-add-result-5 c = omega (arith, small c)
-
-add-result-6 : tie.Need-add-result-6
-add-result-6 c = omega (arith, small c)
-
-add-result-7 : tie.Need-add-result-7
-add-result-7 c = omega (arith, small c)
 
 returns : tie.Need-returns
 returns c weight h = rw (← h .one-is, ← h .two-is, ← h .three-is, ← h .long-is) (omega arith)
@@ -140,6 +149,8 @@ total-in-spec =
     mul-selected
     mul-gates-item
     mul-gates-item-2
+    mul-constraints-item
+    mul-constraints-item-2
     mul-resets-item
     sub-steps-item
     mul-steps-item
@@ -164,11 +175,12 @@ total-in-spec =
     add-nodes-item-2
     mul-nodes-item-2
     add-nodes-item-3
+    add-circuit
+    add-circuit-2
+    add-circuit-3
+    add-circuit-4
     add-result
     add-result-2
     add-result-3
     add-result-4
-    add-result-5
-    add-result-6
-    add-result-7
     returns)

@@ -28,8 +28,11 @@ from-truth c = c .before .before .before
 abbrev from-gates : tie.After-gates → tie.Start
 from-gates c = from-truth (c .before .before .before)
 
+abbrev from-constraints : tie.After-constraints → tie.Start
+from-constraints c = from-gates (c .before .before .before)
+
 abbrev from-resets : tie.After-resets → tie.Start
-from-resets c = from-gates (c .before .before .before)
+from-resets c = from-constraints (c .before .before .before)
 
 abbrev from-steps : tie.After-steps → tie.Start
 from-steps c = from-resets (c .before .before .before)
@@ -64,8 +67,11 @@ truth-written c = and-written (nothing-written (from-truth c)) refl (c .clause1 
 abbrev gates-written : tie.After-gates → Writing
 gates-written c = and-written (truth-written (c .before .before .before)) refl (c .gates .ensures)
 
+abbrev constraints-written : tie.After-constraints → Writing
+constraints-written c = and-written (gates-written (c .before .before .before)) refl (c .constraints .ensures)
+
 abbrev resets-written : tie.After-resets → Writing
-resets-written c = and-written (gates-written (c .before .before .before)) refl (c .resets .ensures)
+resets-written c = and-written (constraints-written (c .before .before .before)) refl (c .resets .ensures)
 
 abbrev steps-written : tie.After-steps → Writing
 steps-written c = and-written (resets-written (c .before .before .before)) refl (c .steps .ensures)
@@ -102,8 +108,11 @@ clause1-requires c κs = search needs
 gates-requires : tie.Need-gates-requires
 gates-requires c κs = (search needs, room-for-next (truth-written (c .before .before)) refl)
 
+constraints-requires : tie.Need-constraints-requires
+constraints-requires c κs = (search needs, room-for-next (gates-written (c .before .before)) refl)
+
 resets-requires : tie.Need-resets-requires
-resets-requires c κs = (search needs, room-for-next (gates-written (c .before .before)) refl)
+resets-requires c κs = (search needs, room-for-next (constraints-written (c .before .before)) refl)
 
 steps-requires : tie.Need-steps-requires
 steps-requires c κs = (search needs, room-for-next (resets-written (c .before .before)) refl)
@@ -140,6 +149,7 @@ all-items-spec =
     (tie.spec
     clause1-requires
     gates-requires
+    constraints-requires
     resets-requires
     steps-requires
     closing-requires

@@ -8,10 +8,10 @@ use Rattle.problem.specs.CheckParts.{Answers}
 use Rattle.problem.proofs.check.limits.Statement.{statement}
 use Rattle.problem.proofs.check.limits.Tie as tie
 
--- Five checks, each by itself, as one part.
-as-one : {a b c d e : Check} {r : PartAnswer}
-    → Answers ((a ∷ []) ∷ (b ∷ []) ∷ (c ∷ []) ∷ (d ∷ []) ∷ (e ∷ []) ∷ []) r → Answers ((a ∷ b ∷ c ∷ d ∷ e ∷ []) ∷ []) r
-as-one five = record { answered = five .answered }
+-- Six checks, each by itself, as one part.
+as-one : {a b c d e f : Check} {r : PartAnswer}
+    → Answers ((a ∷ []) ∷ (b ∷ []) ∷ (c ∷ []) ∷ (d ∷ []) ∷ (e ∷ []) ∷ (f ∷ []) ∷ []) r → Answers ((a ∷ b ∷ c ∷ d ∷ e ∷ f ∷ []) ∷ []) r
+as-one six = record { answered = six .answered }
 
 limit-requires : tie.Need-limit-requires
 limit-requires c κs = search needs
@@ -40,19 +40,27 @@ limit-requires-5 c κs = search needs
 then-requires-4 : tie.Need-then-requires-4
 then-requires-4 c κs = search needs
 
+constraints-limit-requires : tie.Need-constraints-limit-requires
+constraints-limit-requires c κs = search needs
+
+then-requires-5 : tie.Need-then-requires-5
+then-requires-5 c κs = search needs
+
 returns : tie.Need-returns
 unfolding inputs-limit latches-limit gates-limit nodes-limit bound-limit
 returns c =
-    let to-nodes = c .before .before in
+    let to-bound = c .before .before in
+    let to-nodes = to-bound .before .before in
     let to-gates = to-nodes .before .before in
     let to-latches = to-gates .before .before in
     let inputs = to-latches .before .before .limit .ensures in
     let latches = to-latches .before .limit2 .ensures in
     let gates = to-gates .before .limit3 .ensures in
     let nodes = to-nodes .before .limit4 .ensures in
-    let bound = c .before .limit5 .ensures in
-    as-one
-    (c .then4 .ensures .answers _ _ (to-nodes .then3 .ensures .answers _ _ (to-gates .then2 .ensures .answers _ _ (to-latches .then .ensures .answers _ _ inputs latches) gates) nodes) bound)
+    let bound = to-bound .before .limit5 .ensures in
+    let constraints = c .before .constraints-limit .ensures in
+    let five = to-bound .then4 .ensures .answers _ _ (to-nodes .then3 .ensures .answers _ _ (to-gates .then2 .ensures .answers _ _ (to-latches .then .ensures .answers _ _ inputs latches) gates) nodes) bound in
+    as-one (c .then5 .ensures .answers _ _ five constraints)
 
 pub limits-spec : {M : Type 1} → statement M
 limits-spec =
@@ -67,4 +75,6 @@ limits-spec =
     then-requires-3
     limit-requires-5
     then-requires-4
+    constraints-limit-requires
+    then-requires-5
     returns)

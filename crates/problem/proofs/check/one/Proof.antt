@@ -21,6 +21,12 @@ gate-requires c κs =
 enum-told-3 : tie.Need-enum-told-3
 enum-told-3 c = search needs
 
+constraint-requires : tie.Need-constraint-requires
+constraint-requires c κs = search needs
+
+enum-told-4 : tie.Need-enum-told-4
+enum-told-4 c = search needs
+
 node-requires : tie.Need-node-requires
 node-requires c κs = search needs
 
@@ -37,7 +43,12 @@ returns-2 c =
 returns-3 : tie.Need-returns-3
 returns-3 c =
     let told = c .before .before in
-    rw (is (told .before .before .args .kind) (told .match .keys3)) (c .node .ensures)
+    rw (is (told .before .before .args .kind) (told .match .keys3)) (c .constraint .ensures)
+
+returns-4 : tie.Need-returns-4
+returns-4 c =
+    let told = c .before .before in
+    rw (is (told .before .before .args .kind) (told .match .keys4)) (c .node .ensures)
 
 pub one-spec : {M : Type 1} → statement M
 one-spec =
@@ -48,7 +59,10 @@ one-spec =
     enum-told-2
     gate-requires
     enum-told-3
+    constraint-requires
+    enum-told-4
     node-requires
     returns
     returns-2
-    returns-3)
+    returns-3
+    returns-4)

@@ -8,11 +8,14 @@ use Rattle.problem.proofs.check.parts.Tie as tie
 
 -- ════════ The points ════════
 
-abbrev nodes : tie.After-length → tie.After-all3
+abbrev nodes : tie.After-length → tie.After-all4
 nodes c = c .before .before
 
+abbrev constraints : tie.After-length → tie.After-all3
+constraints c = nodes c .before
+
 abbrev gates : tie.After-length → tie.After-all2
-gates c = nodes c .before
+gates c = constraints c .before
 
 abbrev latches : tie.After-length → tie.After-all
 latches c = gates c .before .before
@@ -28,6 +31,9 @@ all-requires-2 c κs = search needs
 all-requires-3 : tie.Need-all-requires-3
 all-requires-3 c κs = search needs
 
+all-requires-4 : tie.Need-all-requires-4
+all-requires-4 c κs = search needs
+
 length-requires : tie.Need-length-requires
 length-requires c κs = search needs
 
@@ -40,9 +46,13 @@ then-requires-2 c κs = search needs
 then-requires-3 : tie.Need-then-requires-3
 then-requires-3 c κs = search needs
 
+then-requires-4 : tie.Need-then-requires-4
+then-requires-4 c κs = search needs
+
 returns : tie.Need-returns
 returns c =
-    let to-gates = c .before in
+    let to-constraints = c .before in
+    let to-gates = to-constraints .before in
     let to-latches = to-gates .before in
     let length = to-latches .before in
     let start = latches length .before .before in
@@ -50,17 +60,21 @@ returns c =
     let ws = start .args .words .now in
     let by-latches = latches length .all .ensures in
     let by-gates = gates length .all2 .ensures in
-    let by-nodes = nodes length .all3 .ensures in
+    let by-constraints = constraints length .all3 .ensures in
+    let by-nodes = nodes length .all4 .ensures in
     record {
       answers =
-          c .then3 .ensures .answers _ _
+          c .then4 .ensures .answers _ _
+          (to-constraints .then3 .ensures .answers _ _
           (to-gates .then2 .ensures .answers _ _ (to-latches .then .ensures .answers _ _ (length .length .ensures) (by-latches .answers)) (by-gates .answers))
+          (by-constraints .answers))
           (by-nodes .answers);
       counted = λ e.
-          let all = c .then3 .ensures .both-pass e in
-          let all-but-nodes = to-gates .then2 .ensures .both-pass (all .0) in
-          let passed = to-latches .then .ensures .both-pass (all-but-nodes .0) in
-          let forms = nodes-seen (problem-in s ws) (nodes length .all3 .result .seen) (shows s ws .nodes-are) (by-nodes .counted (all .1)) in
+          let all = c .then4 .ensures .both-pass e in
+          let all-but-nodes = to-constraints .then3 .ensures .both-pass (all .0) in
+          let to-the-gates = to-gates .then2 .ensures .both-pass (all-but-nodes .0) in
+          let passed = to-latches .then .ensures .both-pass (to-the-gates .0) in
+          let forms = nodes-seen (problem-in s ws) (nodes length .all4 .result .seen) (shows s ws .nodes-are) (by-nodes .counted (all .1)) in
           record {
             fixed-are = latches-seen (problem-in s ws) (latches length .all .result .seen) (shows s ws .latches-are) (by-latches .counted (passed .1));
             forms-are = record { equals-are = forms .equals-are; ors-are = forms .ors-are; untils-are = forms .untils-are };
@@ -74,8 +88,10 @@ parts-spec =
     all-requires
     all-requires-2
     all-requires-3
+    all-requires-4
     length-requires
     then-requires
     then-requires-2
     then-requires-3
+    then-requires-4
     returns)

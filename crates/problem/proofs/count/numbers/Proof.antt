@@ -18,6 +18,9 @@ cast-t6 c = search needs
 cast-t7 : tie.Need-cast-t7
 cast-t7 c = search needs
 
+cast-t8 : tie.Need-cast-t8
+cast-t8 c = search needs
+
 counts-requires : tie.Need-counts-requires
 counts-requires c κs = search needs
 
@@ -25,4 +28,4 @@ returns : tie.Need-returns
 returns c = c .counts .ensures
 
 pub numbers-spec : {M : Type 1} → statement M
-numbers-spec = tie.close (tie.spec cast-t3 add-t4 cast-t5 cast-t6 cast-t7 counts-requires returns)
+numbers-spec = tie.close (tie.spec cast-t3 add-t4 cast-t5 cast-t6 cast-t7 cast-t8 counts-requires returns)

@@ -21,7 +21,7 @@ use Rattle.problem.proofs.count.with_one.Tie as tie
 abbrev latch-arm : tie.After-enum-told → tie.Start
 latch-arm c = c .before .before .before
 
-abbrev node-arm : tie.After-enum-told3 → tie.Start
+abbrev node-arm : tie.After-enum-told4 → tie.Start
 node-arm c = c .before .before .before
 
 abbrev p : tie.Start → Problem
@@ -30,8 +30,8 @@ p c = problem-in (c .args .s) (c .args .words .now)
 latches-to : (c : tie.After-enum-told) → let at = latch-arm c in (at .args .i < at .args .s .latches) × SeenTo Kind.Latch (p at) (at .args .i) (at .args .seen)
 latches-to c = let at = latch-arm c in kind-by (outline-of (at .args .s)) (p at) (at .args .i) (at .args .seen) (is (at .args .kind) (c .before .match .keys1)) (at .pre)
 
-nodes-to : (c : tie.After-enum-told3) → let at = node-arm c in (at .args .i < at .args .s .nodes) × SeenTo Kind.Node (p at) (at .args .i) (at .args .seen)
-nodes-to c = let at = node-arm c in kind-by (outline-of (at .args .s)) (p at) (at .args .i) (at .args .seen) (is (at .args .kind) (c .before .match .keys3)) (at .pre)
+nodes-to : (c : tie.After-enum-told4) → let at = node-arm c in (at .args .i < at .args .s .nodes) × SeenTo Kind.Node (p at) (at .args .i) (at .args .seen)
+nodes-to c = let at = node-arm c in kind-by (outline-of (at .args .s)) (p at) (at .args .i) (at .args .seen) (is (at .args .kind) (c .before .match .keys4)) (at .pre)
 
 -- What is added for a node by another name.
 added-by : {f r : Seen} {x y : Node} → x ≡ y → Added f x r → Added f y r
@@ -55,6 +55,9 @@ enum-told-2 c = search needs
 
 enum-told-3 : tie.Need-enum-told-3
 enum-told-3 c = search needs
+
+enum-told-4 : tie.Need-enum-told-4
+enum-told-4 c = search needs
 
 node-place-requires : tie.Need-node-place-requires
 node-place-requires c κs = search needs
@@ -81,7 +84,10 @@ returns-2 : tie.Need-returns-2
 returns-2 c = rw (is (c .before .before .before .args .kind) (c .before .match .keys2)) tt
 
 returns-3 : tie.Need-returns-3
-returns-3 c =
+returns-3 c = rw (is (c .before .before .before .args .kind) (c .before .match .keys3)) tt
+
+returns-4 : tie.Need-returns-4
+returns-4 c =
     let read = c .before in
     let told = read .before .before in
     let at = node-arm told in
@@ -89,7 +95,7 @@ returns-3 c =
     let s = at .args .s in
     let ws = at .args .words .now in
     let op = read .word-at .ensures ∙ ap (word ws) (read .before .node-place .ensures) in
-    rw (is (at .args .kind) (told .before .match .keys3))
+    rw (is (at .args .kind) (told .before .match .keys4))
     (node-more (p at) (at .args .seen) (rw (shows s ws .nodes-are) (to .0)) (to .1) (c .with-op .result)
     (added-by (ap (λ n. node-of n (word ws (node-place (outline-of s) (at .args .i) + 1)) (word ws (node-place (outline-of s) (at .args .i) + 2))) op ∙ node-words-read s ws (at .args .i) (to .0))
     (c .with-op .ensures _ _)))
@@ -103,9 +109,11 @@ with-one-spec =
     with-reset-requires
     enum-told-2
     enum-told-3
+    enum-told-4
     node-place-requires
     word-at-requires
     with-op-requires
     returns
     returns-2
-    returns-3)
+    returns-3
+    returns-4)

@@ -10,7 +10,11 @@ returns c = rw (c .match .keys1)
 
 returns-2 : tie.Need-returns-2
 unfolding header-words
-returns-2 c = rw (ne-eqb (c .before .args .version) 1 (c .match .rest .1))
+returns-2 c = rw (c .match .keys2)
+
+returns-3 : tie.Need-returns-3
+unfolding header-words
+returns-3 c = rw (ne-eqb (c .before .args .version) 1 (c .match .rest .0 .1), ne-eqb (c .before .args .version) 2 (c .match .rest .1))
 
 pub header-words-spec : {M : Type 1} → statement M
-header-words-spec = tie.close (tie.spec returns returns-2)
+header-words-spec = tie.close (tie.spec returns returns-2 returns-3)

@@ -7,13 +7,13 @@ use lib.ListN.{length, length-replicate}
 use native.Mathlib.Omega.{arith}
 use Rattle.meaning.specs.Limits.{inputs-limit, latches-limit, gates-limit, bound-limit}
 use Rattle.meaning.specs.Problem.{Problem}
-use Rattle.meaning.specs.Witnesses.{witness-length, byte-checks}
+use Rattle.meaning.specs.Witnesses.{witness-length, byte-checks, reset-checks}
 use Rattle.problem.specs.Promise.{problem-in}
 use Rattle.problem.proofs.Outlines.{shows, bound-small}
 use Rattle.witness.specs.declared.WitnessAnswer.the-variants.{Yes}
 use Rattle.witness.specs.Tables.{row-width, rows-room}
 use Rattle.witness.specs.Promise.{AnsweredBy}
-use Rattle.witness.proofs.Judging.{yes-if-first, refuses-if-later, refused-first, yes-first, length-right, start-right, judged}
+use Rattle.witness.proofs.Judging.{yes-if-first, refuses-if-later, refused-first, yes-first, length-right, start-right, from-loop, from-resets, judged}
 use borrow.Author.Needs.{needs}
 use Rattle.witness.proofs.judge.judge_good.Statement.{statement}
 use Rattle.witness.proofs.judge.judge_good.Tie as tie
@@ -106,9 +106,12 @@ returns-3 : tie.Need-returns-3
 returns-3 c =
     let r = resets-of (table-of (c .before)) in
     let b = bytes-of (r .before) in
-    judged _ _
-    (yes-first _ _ (bytes-yes b) (by-bytes (b .before))
-    (yes-first _ _ (yes-if-first (r .before .resets .result) (r .match2 .keys1)) (r .before .resets .ensures) (c .shown .ensures)))
+    let p = problem-at (b .before) in
+    let bs = bytes (b .before) in
+    judged p bs
+    (yes-first (byte-checks p bs) (from-resets p bs) (bytes-yes b) (by-bytes (b .before))
+    (yes-first (reset-checks p bs) (from-loop p bs) (yes-if-first (r .before .resets .result) (r .match2 .keys1)) (r .before .resets .ensures)
+    (c .shown .ensures)))
 
 pub judge-good-spec : {M : Type 1} → statement M
 judge-good-spec =
