@@ -7,24 +7,24 @@ use native.Mathlib.Omega.{arith}
 use borrow.Author.Tests.{leb-true, le-leb, eqb-true, eq-eqb, ne-eqb}
 use lib.Dec.{leb, eqb, lit<}
 use lib.ListN.{length}
-use Rattle.clauses.specs.Lists.{all-of, joined}
-use Rattle.clauses.specs.Answers.{Answer, Check, first-failing-part, granted}
-use Rattle.clauses.proofs.Satisfaction.{both-true, second-true}
-use Rattle.clauses.proofs.Answers.{passing, other-than, passed-by-number, first-failing-passed, first-failing-joined, parts-append, number-of}
+use Rattle.answers.specs.Lists.{all-of, joined}
+use Rattle.answers.specs.Answers.{Answer, Check, first-failing-part, granted}
+use Rattle.answers.proofs.Tests.{both-true, second-true}
+use Rattle.answers.proofs.Answers.{passing, other-than, passed-by-number, first-failing-passed, first-failing-joined, parts-append, number-of}
 use Rattle.meaning.specs.Problem.{word}
 use Rattle.meaning.specs.Check.{largest-literal, limit-check, latch-checks, gate-checks}
 use Rattle.meaning.specs.Proper.{LatchRight, GateRight}
 use Rattle.meaning.proofs.ItemByItem.{_and_, all-of-joined}
 use Rattle.meaning.proofs.Numbers.{all-of-each-below, all-of-below}
 use Rattle.meaning.proofs.Check.{passes-at}
+use Rattle.problem.specs.declared.Refusal.{Refusal}
+use Rattle.problem.specs.declared.parts.PartAnswer.the-variants.{Passed, Refused}
+use Rattle.problem.specs.Promise.{refusal-answer}
+use Rattle.problem.specs.CheckParts.{Answers}
+use Rattle.problem.proofs.Answered.{refused-first}
 use Rattle.problem.proofs.Formed.{passes-if-handed-on}
-use Rattle.aiger.specs.declared.Outcome.{Outcome}
-use Rattle.aiger.specs.declared.check.Part.the-variants.{Passed, Refused}
 use Rattle.aiger.specs.Circuits.{Sizes, sizes, header-size, circuit, output-place, words-in-all, header-checks, limit-checks, length-checks, output-checks, circuit-parts, check-circuit}
-use Rattle.aiger.specs.Promise.{answer-of}
 use Rattle.aiger.specs.Reads.{Fitting}
-use Rattle.aiger.specs.Writes.{Answers}
-use Rattle.aiger.proofs.Answered.{refused-first}
 
 -- All that the check asks of the words.
 pub record GoodCircuit (ws : List ℕ) : Type 0 where
@@ -169,5 +169,5 @@ module _ (ws : List ℕ) where
     pub more-if-good : GoodCircuit ws → first-failing-part (circuit-parts ws ++ more) after ≡ first-failing-part more after
     more-if-good g = parts-append (circuit-parts ws) more after ∙ handed-on (first-failing-part more after) g
 
-    pub refused-whatever : {f : Outcome} → Answers (circuit-parts ws) (Refused f) → first-failing-part (circuit-parts ws ++ more) after ≡ answer-of f
+    pub refused-whatever : {f : Refusal} → Answers (circuit-parts ws) (Refused f) → first-failing-part (circuit-parts ws ++ more) after ≡ refusal-answer f
     refused-whatever a = sym (refused-first (circuit-parts ws) more a .answered after)

@@ -5,19 +5,16 @@ use mathlib.Core.Bool.{Bool, true, not}
 use mathlib.Core.List.{List, [], _∷_, _++_, map}
 use Prim.Native.Nat.{ℕ}
 use lib.Dec.{ltb, leb}
-use Rattle.clauses.specs.Lists.{numbers}
-use Rattle.text.specs.Numbers.{bytes-of, largest-number}
+use Rattle.answers.specs.Lists.{numbers}
+use Rattle.text.specs.Numbers.{bytes-of}
+use Rattle.answers.specs.Limits.{largest-number, inputs-limit, latches-limit, gates-limit, outputs-limit}
 use Rattle.text.specs.Readings.{space-byte, newline-byte, Reader, ahead, in-turn, space, newline, told, at-most, exactly}
 use Rattle.text.proofs.ReadingLaws.{in-turn-one}
-use Rattle.meaning.specs.Limits.{inputs-limit, latches-limit, gates-limit, outputs-limit}
 use Rattle.meaning.specs.Check.{largest-literal}
 use Rattle.aiger.specs.Circuits.{Sizes, circuit}
-use Rattle.aiger.specs.Texts.{input-literal, latch-literal, gate-literal, opening, input-due, begins-with, reset-word, reset-due, latch-due, output-due}
-use Rattle.aiger.specs.Texts.{below, gate-due, lines-due}
-use Rattle.aiger.proofs.Closed.{Closed, Needs, anything, closed-by, needs-by, keeping, closed-keeping, needs-keeping, closed-either, needs-either}
-use Rattle.aiger.proofs.Closed.{ahead-is-kept, closed-then, needs-then, closed-none, closed-one, closed-joined, closed-each}
-use Rattle.aiger.proofs.ClosedWords.{closed-mark, needs-mark, ends, closed-number, closed-told, closed-exactly, closed-reset-word}
-use Rattle.aiger.proofs.ClosedWords.{closed-from-mark, needs-from-mark, closed-word-then}
+use Rattle.aiger.specs.Texts.{input-literal, latch-literal, gate-literal, opening, input-due, begins-with, reset-word, reset-due, latch-due, output-due, below, gate-due, lines-due}
+use Rattle.aiger.proofs.Closed.{Closed, Needs, anything, closed-by, needs-by, keeping, closed-keeping, needs-keeping, closed-either, needs-either, ahead-is-kept, closed-then, needs-then, closed-none, closed-one, closed-joined, closed-each}
+use Rattle.aiger.proofs.ClosedWords.{closed-mark, needs-mark, ends, closed-number, closed-told, closed-exactly, closed-reset-word, closed-from-mark, needs-from-mark, closed-word-then}
 
 -- ════════ A word and what ends it ════════
 

@@ -7,7 +7,7 @@ use native.Mathlib.Omega.{arith}
 use borrow.Author.Tests.{eqb-true}
 use lib.Dec.{eqb}
 use lib.ListN.{length}
-use Rattle.clauses.proofs.Satisfaction.{second-true}
+use Rattle.answers.proofs.Tests.{second-true}
 use Rattle.text.specs.Numbers.{same, value, is-number}
 use Rattle.text.specs.Readings.{parts, word-of, past-word, Reading, found, fault, Reader, in-turn, mark, told, number, unkept, exactly}
 use Rattle.aiger.specs.Texts.{kept-as, as-reset, is-reset, reset-word}

@@ -5,7 +5,7 @@ use Prim.Native.Nat.{ℕ, _+_, _*_, _-_, _≤_}
 use native.Mathlib.Omega.{arith}
 use lib.ListN.{length, take, drop, length-append}
 use lib.Seq.{take-take, take-add, length-take-le, drop-at}
-use Rattle.clauses.specs.Lists.{written}
+use Rattle.answers.specs.Lists.{written}
 use Rattle.text.specs.Promise.{placed}
 use Rattle.text.proofs.Buffers.{Put, put-then}
 use Rattle.aiger.specs.Circuits.{Sizes, words-in-all}

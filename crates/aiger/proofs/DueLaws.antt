@@ -10,16 +10,15 @@ use borrow.Author.Tests.{ltb-true, ltb-false, leb-true, leb-false, eqb-true, eqb
 use lib.Dec.{leb, ltb, eqb}
 use lib.ListN.{length, take, drop, getD, set, drop-of-length-le}
 use lib.Seq.{drop-cons, drop-drop, drop-append-seam, take-suc-set}
-use Rattle.clauses.proofs.Satisfaction.{first-true, one-true, false-if-not-true}
+use Rattle.answers.proofs.Tests.{first-true, one-true, false-if-not-true}
 use Rattle.text.specs.Numbers.{bytes-of, value, is-number, same}
 use Rattle.text.specs.Readings.{parts, word-of, past-word, newline-byte, Reading, found, fault, Reader, and-then, mark, space, newline, told, number, at-most, unkept, exactly}
-use Rattle.text.specs.Promise.{no-number}
+use Rattle.text.specs.Promise.{no-number, WordAt}
 use Rattle.text.proofs.ReadingLaws.{then-then, then-one}
 use Rattle.text.proofs.NumberLaws.{same-true, past-none, word-of-past, word-and-past}
 use Rattle.text.proofs.StateLaws.{Scanned, as-none, as-number, as-other, scanned-as, scanned-number, scanned-suc, exact-by-state, outside-by-state}
 use Rattle.aiger.specs.Texts.{begins-with, is-reset, as-reset, kept-as, reset-word, reset-due}
 use Rattle.aiger.specs.Reads.{reached, Passes, Keeps}
-use Rattle.text.specs.Promise.{WordAt}
 use Rattle.aiger.specs.declared.due.Reached.{Reached}
 use Rattle.text.specs.declared.scan.Word.{Word}
 

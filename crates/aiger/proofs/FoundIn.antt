@@ -7,8 +7,9 @@ use native.Mathlib.Nat.{add-zero}
 use native.Mathlib.Omega.{arith}
 use lib.Dec.{eqb}
 use lib.ListN.{length, length-append}
-use Rattle.clauses.specs.Lists.{numbers, each}
-use Rattle.text.specs.Numbers.{decimal, largest-number}
+use Rattle.answers.specs.Lists.{numbers, each}
+use Rattle.text.specs.Numbers.{decimal}
+use Rattle.answers.specs.Limits.{largest-number}
 use Rattle.text.specs.Readings.{parts, word-of, Reading, found, Reader, ahead, and-then, in-turn, mark, number}
 use Rattle.text.proofs.ReadingLaws.{in-turn-append}
 use Rattle.text.proofs.NumberLaws.{decimal-value, decimal-is-number, word-of-decimal, past-decimal}

@@ -8,7 +8,7 @@ use borrow.Author.Tests.{leb-true, ltb-true}
 use lib.Dec.{eqb}
 use lib.ListN.{length, getD, take, drop, length-append, List·getD-append}
 use lib.Seq.{drop-drop, getD-append-add}
-use Rattle.clauses.specs.Lists.{numbers, each}
+use Rattle.answers.specs.Lists.{numbers, each}
 use Rattle.text.specs.Readings.{Reading, found, fault, in-turn}
 use Rattle.meaning.specs.Problem.{word, latch-place, gate-place}
 use Rattle.meaning.specs.Check.{largest-literal}

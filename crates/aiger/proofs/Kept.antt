@@ -7,8 +7,8 @@ use native.Mathlib.Nat.{mul-zero, mul-suc}
 use native.Mathlib.Omega.{arith}
 use lib.Dec.{leb, ltb, eqb}
 use lib.ListN.{length, getD, take, drop, length-append}
-use Rattle.clauses.specs.Lists.{numbers, each}
-use Rattle.clauses.proofs.Satisfaction.{both-true, first-true, second-true}
+use Rattle.answers.specs.Lists.{numbers, each}
+use Rattle.answers.proofs.Tests.{both-true, first-true, second-true}
 use Rattle.text.specs.Numbers.{same, value, is-number}
 use Rattle.text.specs.Readings.{Reading, found, fault, Reader, ahead, and-then, in-turn, mark, told, number, unkept, exactly, word-of, past-word}
 use Rattle.text.proofs.ReadingLaws.{in-turn-append}

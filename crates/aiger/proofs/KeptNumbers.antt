@@ -9,11 +9,11 @@ use native.Mathlib.Omega.{arith}
 use borrow.Author.Tests.{leb-true, le-leb, eqb-true}
 use lib.Dec.{leb, eqb}
 use lib.ListN.{length, length-append, length-take, length-drop}
-use Rattle.clauses.specs.Lists.{numbers, each}
-use Rattle.clauses.proofs.Satisfaction.{both-true, first-true, second-true, one-true}
-use Rattle.text.specs.Numbers.{bytes-of, largest-number}
+use Rattle.answers.specs.Lists.{numbers, each}
+use Rattle.answers.proofs.Tests.{both-true, first-true, second-true, one-true}
+use Rattle.text.specs.Numbers.{bytes-of}
+use Rattle.answers.specs.Limits.{largest-number, inputs-limit, latches-limit, gates-limit, outputs-limit}
 use Rattle.text.specs.Readings.{Reading, found, fault, Reader, ahead, in-turn, space, newline, number, space-byte, newline-byte}
-use Rattle.meaning.specs.Limits.{inputs-limit, latches-limit, gates-limit, outputs-limit}
 use Rattle.meaning.specs.Problem.{word}
 use Rattle.meaning.specs.Check.{largest-literal, largest-reset}
 use Rattle.aiger.specs.Circuits.{Sizes, circuit, words-in-all}

@@ -9,12 +9,12 @@ use native.Mathlib.Omega.{arith}
 use borrow.Author.Tests.{le-leb}
 use lib.Dec.{leb}
 use lib.ListN.{length, length-append, take-append-drop}
-use Rattle.clauses.specs.Lists.{numbers, each}
+use Rattle.answers.specs.Lists.{numbers, each}
 use Rattle.text.specs.Readings.{space-byte, newline-byte}
 use Rattle.text.specs.Promise.{largest-size, Puts}
 use Rattle.text.proofs.Buffers.{placed-append}
 use Rattle.meaning.proofs.Numbers.{numbers-suc, each-append}
-use Rattle.meaning.specs.Limits.{inputs-limit, latches-limit, gates-limit, outputs-limit}
+use Rattle.answers.specs.Limits.{inputs-limit, latches-limit, gates-limit, outputs-limit}
 use Rattle.meaning.specs.Problem.{word}
 use Rattle.aiger.specs.declared.sizes.Kind.{Kind}
 use Rattle.aiger.specs.declared.sizes.Kind.the-variants.{Input, Latch, Output, Gate}

@@ -1,19 +1,28 @@
 -- Readers and writers that are lazy or wrong do not meet the promise, whatever the text or the words are; LazyTexts and LazyWords have inputs where
 -- it shows. Assumes nothing.
 use mathlib.Core.Path.{_≡_, refl, sym, _∙_, ap}
-use mathlib.Core.List.{List, _++_}
+use mathlib.Core.Bool.{Bool, true, false, cond}
+use mathlib.Core.List.{List, [], _∷_, _++_}
 use Prim.Native.Nat.{ℕ, _≤_, _<_}
-use borrow.Author.Tests.{le-leb, lt-leb}
+use native.Mathlib.Omega.{arith}
+use borrow.Author.Tests.{le-leb, lt-leb, ne-eqb}
+use lib.Dec.{leb}
 use lib.ListN.{length, getD, take}
-use Rattle.clauses.specs.Lists.{written}
-use Rattle.clauses.proofs.Answers.{number-of, place-of}
-use Rattle.text.specs.Numbers.{longest-text}
+use Rattle.answers.specs.Lists.{written}
+use Rattle.answers.specs.Answers.{Answer, Check, first-failing-part, granted, output-room-too-small}
+use Rattle.answers.proofs.Answers.{number-of, place-of, parts-append}
+use Rattle.answers.specs.Limits.{longest-text}
 use Rattle.text.specs.Readings.{found, fault}
+use Rattle.problem.specs.declared.Refusal.the-variants.{BadVersion, BadNode}
+use Rattle.problem.specs.Promise.{refusal-answer}
+use Rattle.problem.proofs.Unique.{refusal-not-yes}
 use Rattle.aiger.specs.declared.Outcome.{Outcome}
-use Rattle.aiger.specs.declared.Outcome.the-variants.{Done, BadText, BadLength, OutsideLimits, BadReset, BadLiteral, RoomTooSmall}
+use Rattle.aiger.specs.declared.Outcome.the-variants.{Done, BadText, Circuit, RoomTooSmall}
+use Rattle.aiger.specs.Circuits.{circuit-parts}
 use Rattle.aiger.specs.Texts.{circuit-text, circuit-read}
-use Rattle.aiger.specs.Calls.{read-answer, room-after-reading, room-after-writing}
+use Rattle.aiger.specs.Calls.{room-check, read-answer, room-after-reading, write-answer, room-after-writing}
 use Rattle.aiger.specs.Promise.{answer-of, ReadAs, WrittenAs}
+use Rattle.aiger.proofs.CheckedCircuit.{GoodCircuit, good-by-number, more-if-good}
 use Rattle.aiger.proofs.Unique.{same-outcome, read-unique, written-unique}
 use Rattle.aiger.proofs.Unread.{read-without-rest}
 
@@ -103,6 +112,33 @@ pub other-text-breaks : (ws room after : List ℕ) (n : ℕ) → ¬ (after ≡ w
 unfolding room-after-writing
 other-text-breaks ws room after n h j = h (j .room-after)
 
+-- Writing answers 0 to 4 or 27.
+module _ (ws : List ℕ) (room : ℕ) where
+  abbrev more : List (List Check)
+  more = (room-check (length (circuit-text ws)) room ∷ []) ∷ []
+
+  abbrev at-yes : Answer
+  at-yes = granted (length (circuit-text ws))
+
+  by-room : (k : ℕ) → 4 < k → (k ≡ 27 → ⊥) → (b : Bool) → cond b at-yes (output-room-too-small (length (circuit-text ws))) .number ≡ k → ⊥
+  by-room k over other true e = omega arith
+  by-room k over other false e = other (sym e)
+
+  no-other-number : (k : ℕ) → 4 < k → (k ≡ 27 → ⊥) → write-answer ws room .number ≡ k → ⊥
+  unfolding write-answer
+  no-other-number k over other e =
+      let by-parts = sym (number-of (parts-append (circuit-parts ws) more at-yes)) ∙ e in
+      let good = good-by-number ws k (first-failing-part more at-yes) (λ n l h z. omega arith) by-parts in
+      by-room k over other (leb (length (circuit-text ws)) room) (sym (number-of (more-if-good ws more at-yes good)) ∙ e)
+
+-- 15, or 5: a circuit has neither a version nor nodes.
+module _ (ws room after : List ℕ) where
+  pub version-refused-breaks : Breaks (writing ws room) (Circuit BadVersion) after
+  version-refused-breaks j = no-other-number ws (length room) 15 (omega arith) (λ e. omega arith) (sym (number-of (j .answered)))
+
+  pub node-refused-breaks : (i : ℕ) → Breaks (writing ws room) (Circuit (BadNode i)) after
+  node-refused-breaks i j = no-other-number ws (length room) 5 (omega arith) (λ e. omega arith) (sym (number-of (j .answered)))
+
 -- ════════ The room at a refusal ════════
 
 -- It is changed.
@@ -111,18 +147,12 @@ module _ (given room after : List ℕ) (changed : ¬ (after ≡ room)) where
   unfolding room-after-reading
   changed-by-reading-breaks (Done n) h j = h n refl
   changed-by-reading-breaks (BadText p) h j = changed (j .room-after)
-  changed-by-reading-breaks (BadLength n) h j = changed (j .room-after)
-  changed-by-reading-breaks (OutsideLimits i) h j = changed (j .room-after)
-  changed-by-reading-breaks (BadReset i) h j = changed (j .room-after)
-  changed-by-reading-breaks (BadLiteral i) h j = changed (j .room-after)
+  changed-by-reading-breaks (Circuit f) h j = changed (j .room-after ∙ rw (ne-eqb (refusal-answer f .number) 0 (refusal-not-yes f)))
   changed-by-reading-breaks (RoomTooSmall n) h j = changed (j .room-after)
 
   pub changed-by-writing-breaks : (r : Outcome) → ((n : ℕ) → ¬ (r ≡ Done n)) → Breaks (writing given room) r after
   unfolding room-after-writing
   changed-by-writing-breaks (Done n) h j = h n refl
   changed-by-writing-breaks (BadText p) h j = changed (j .room-after)
-  changed-by-writing-breaks (BadLength n) h j = changed (j .room-after)
-  changed-by-writing-breaks (OutsideLimits i) h j = changed (j .room-after)
-  changed-by-writing-breaks (BadReset i) h j = changed (j .room-after)
-  changed-by-writing-breaks (BadLiteral i) h j = changed (j .room-after)
+  changed-by-writing-breaks (Circuit f) h j = changed (j .room-after ∙ rw (ne-eqb (refusal-answer f .number) 0 (refusal-not-yes f)))
   changed-by-writing-breaks (RoomTooSmall n) h j = changed (j .room-after)

@@ -5,9 +5,9 @@ use mathlib.Core.List.{List, [], _∷_, _++_}
 use Prim.Native.Nat.{ℕ, _+_, _-_, _≤_}
 use native.Mathlib.Omega.{arith}
 use lib.ListN.{length, getD, replicate, length-append, length-replicate}
-use Rattle.clauses.specs.Answers.{Answer}
-use Rattle.text.specs.Numbers.{bytes-of, decimal, is-number, largest-number, longest-text}
-use Rattle.meaning.specs.Limits.{inputs-limit, latches-limit, gates-limit, outputs-limit}
+use Rattle.answers.specs.Answers.{Answer}
+use Rattle.text.specs.Numbers.{bytes-of, decimal, is-number}
+use Rattle.answers.specs.Limits.{largest-number, longest-text, inputs-limit, latches-limit, gates-limit, outputs-limit}
 use Rattle.aiger.specs.declared.Outcome.{Outcome}
 use Rattle.aiger.specs.declared.Outcome.the-variants.{Done, BadText, RoomTooSmall}
 use Rattle.aiger.specs.Texts.{circuit-read}

@@ -5,11 +5,12 @@ use mathlib.Core.List.{List, [], _∷_, _++_}
 use Prim.Native.Nat.{ℕ}
 use native.Mathlib.Omega.{arith}
 use lib.ListN.{getD, replicate}
-use Rattle.clauses.specs.Answers.{Answer}
+use Rattle.answers.specs.Answers.{Answer}
 use Rattle.text.specs.Numbers.{bytes-of, decimal}
-use Rattle.meaning.specs.Limits.{inputs-limit, latches-limit, gates-limit, outputs-limit}
+use Rattle.answers.specs.Limits.{inputs-limit, latches-limit, gates-limit, outputs-limit}
+use Rattle.problem.specs.declared.Refusal.the-variants.{BadReset, BadLiteral}
 use Rattle.aiger.specs.declared.Outcome.{Outcome}
-use Rattle.aiger.specs.declared.Outcome.the-variants.{Done, BadReset, BadLiteral, RoomTooSmall}
+use Rattle.aiger.specs.declared.Outcome.the-variants.{Done, Circuit, RoomTooSmall}
 use Rattle.aiger.specs.Texts.{circuit-text}
 use Rattle.aiger.specs.Calls.{write-answer, room-after-writing}
 use Rattle.aiger.specs.Cases.{sample, sample-text}
@@ -109,7 +110,7 @@ missing-bytes-breaks after = other-place narrow narrow-meets (λ e. omega arith)
 abbrev pub reset-3 : Call
 reset-3 = into 0 (0 ∷ 1 ∷ 0 ∷ 0 ∷ 3 ∷ 3 ∷ [])
 
-pub reset-3-meets : reset-3 .Meets (BadReset 5) []
+pub reset-3-meets : reset-3 .Meets (Circuit (BadReset 5)) []
 unfolding laid-down room-left
 reset-3-meets = record { answered = refl; room-after = refl }
 
@@ -117,7 +118,7 @@ reset-3-meets = record { answered = refl; room-after = refl }
 abbrev pub output-2 : Call
 output-2 = into 30 (0 ∷ 0 ∷ 0 ∷ 1 ∷ 2 ∷ [])
 
-pub output-2-meets : output-2 .Meets (BadLiteral 4) (replicate 30 7)
+pub output-2-meets : output-2 .Meets (Circuit (BadLiteral 4)) (replicate 30 7)
 unfolding laid-down room-left
 output-2-meets = record { answered = refl; room-after = refl }
 
@@ -126,7 +127,7 @@ module _ (after : List ℕ) where
   pub room-before-words-breaks : (n : ℕ) → Breaks reset-3 (RoomTooSmall n) after
   room-before-words-breaks n = other-number reset-3 reset-3-meets (λ e. omega arith)
 
-  pub reset-with-4-breaks : (i : ℕ) → Breaks reset-3 (BadLiteral i) after
+  pub reset-with-4-breaks : (i : ℕ) → Breaks reset-3 (Circuit (BadLiteral i)) after
   reset-with-4-breaks i = other-number reset-3 reset-3-meets (λ e. omega arith)
 
   -- The outputs are not checked.

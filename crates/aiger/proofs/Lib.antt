@@ -1,6 +1,5 @@
 -- The plain mathematics of the crate's proofs.
 pub mod KindNumbers
-pub mod Answered
 pub mod CheckedCircuit
 pub mod DueLaws
 pub mod LinesLaws

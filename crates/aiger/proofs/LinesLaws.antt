@@ -6,11 +6,11 @@ use Prim.Native.Nat.{ℕ, suc, _+_, _*_, _-_, _≤_, _<_}
 use native.Mathlib.Nat.{zero-add}
 use native.Mathlib.Omega.{arith}
 use lib.Dec.{leb, ltb, leb·suc-suc}
-use Rattle.clauses.specs.Lists.{numbers}
+use Rattle.answers.specs.Lists.{numbers}
 use Rattle.text.specs.Readings.{Reading, found, fault, Reader, and-then, in-turn, word-of, space, newline, number, at-most, exactly}
 use Rattle.text.specs.Numbers.{value}
 use Rattle.text.proofs.ReadingLaws.{then-ahead, then-by, then-none, then-then, then-one, then-in-turn}
-use Rattle.meaning.specs.Limits.{inputs-limit, latches-limit, gates-limit, outputs-limit}
+use Rattle.answers.specs.Limits.{inputs-limit, latches-limit, gates-limit, outputs-limit}
 use Rattle.meaning.specs.Check.{largest-literal}
 use Rattle.meaning.proofs.Numbers.{numbers-append}
 use Rattle.aiger.specs.Circuits.{Sizes, circuit}

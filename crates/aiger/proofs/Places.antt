@@ -8,14 +8,14 @@ use native.Mathlib.Nat.{mul-suc}
 use native.Mathlib.Omega.{arith}
 use lib.Dec.{leb, ltb, eqb}
 use lib.ListN.{length}
-use Rattle.clauses.specs.Lists.{numbers}
-use Rattle.clauses.proofs.Satisfaction.{first-true}
-use Rattle.text.specs.Numbers.{bytes-of, same, value, is-number, largest-number, longest-text}
+use Rattle.answers.specs.Lists.{numbers}
+use Rattle.answers.proofs.Tests.{first-true}
+use Rattle.text.specs.Numbers.{bytes-of, same, value, is-number}
+use Rattle.answers.specs.Limits.{largest-number, longest-text, inputs-limit, latches-limit, gates-limit, outputs-limit}
 use Rattle.text.specs.Readings.{Reading, found, fault, Reader, ahead, and-then, in-turn, space-byte, newline-byte, newline, space, mark, told, number, unkept, exactly, word-of, past-word}
 use Rattle.text.proofs.Decimals.{length-within}
 use Rattle.text.proofs.NumberLaws.{number-printed, number-within}
 use Rattle.text.proofs.ReadingLaws.{in-turn-append}
-use Rattle.meaning.specs.Limits.{inputs-limit, latches-limit, gates-limit, outputs-limit}
 use Rattle.meaning.specs.Problem.{word}
 use Rattle.meaning.specs.Check.{largest-literal}
 use Rattle.aiger.specs.Circuits.{Sizes, circuit}

@@ -8,11 +8,10 @@ use borrow.Author.Tests.{le-leb, lt-leb, eq-eqb, ne-eqb, eqb-true}
 use lib.Dec.{leb, eqb}
 use lib.ListN.{length, take, drop, length-take, take-append-drop}
 use lib.Seq.{take-append-seam, getD-take}
-use Rattle.clauses.specs.Lists.{written}
-use Rattle.text.specs.Numbers.{longest-text}
+use Rattle.answers.specs.Lists.{written}
+use Rattle.answers.specs.Limits.{longest-text, inputs-limit, latches-limit, outputs-limit, gates-limit}
 use Rattle.text.specs.Readings.{Reading, found, fault, and-then, in-turn}
 use Rattle.text.proofs.ReadingLaws.{ahead-none}
-use Rattle.meaning.specs.Limits.{inputs-limit, latches-limit, outputs-limit, gates-limit}
 use Rattle.meaning.specs.Problem.{word}
 use Rattle.aiger.specs.Circuits.{Sizes}
 use Rattle.aiger.specs.Texts.{opening, lines-due, sizes-read, largest-variable, variable-place, in-order, ordered, after-opening, circuit-read}

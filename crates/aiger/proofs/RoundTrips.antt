@@ -9,16 +9,15 @@ use borrow.Author.Tests.{le-leb}
 use lib.Dec.{leb}
 use lib.ListN.{length, take, drop}
 use lib.Seq.{take-at}
-use Rattle.clauses.specs.Lists.{written}
-use Rattle.clauses.specs.Answers.{Answer, first-failing-part, granted}
-use Rattle.clauses.proofs.Answers.{number-of, parts-append}
-use Rattle.text.specs.Numbers.{longest-text}
+use Rattle.answers.specs.Lists.{written}
+use Rattle.answers.specs.Answers.{Answer, first-failing-part, granted, output-room-too-small}
+use Rattle.answers.proofs.Answers.{number-of, parts-append}
+use Rattle.answers.specs.Limits.{longest-text}
 use Rattle.text.specs.Readings.{Reading, found, fault}
-use Rattle.meaning.specs.Answers.{bad-text, output-room-too-small}
+use Rattle.aiger.specs.Calls.{bad-text, room-check, answer-to, words-found, read-answer, room-after-reading, write-answer, room-after-writing}
 use Rattle.aiger.specs.declared.Outcome.{Outcome}
 use Rattle.aiger.specs.Circuits.{circuit-parts, check-circuit}
 use Rattle.aiger.specs.Texts.{circuit-text, circuit-read}
-use Rattle.aiger.specs.Calls.{room-check, answer-to, words-found, read-answer, room-after-reading, write-answer, room-after-writing}
 use Rattle.aiger.specs.Promise.{answer-of, ReadAs, WrittenAs}
 use Rattle.aiger.proofs.CheckedCircuit.{GoodCircuit, good-if-granted, granted-if-good, more-if-good, good-by-number}
 use Rattle.aiger.proofs.TextLengths.{text-within}

@@ -6,11 +6,11 @@ use Prim.Native.Nat.{ℕ, zero, suc, _+_, _*_, _^_, _≤_, _<_}
 use native.Mathlib.Omega.{arith}
 use lib.Dec.{eqb}
 use lib.ListN.{length, length-append}
-use Rattle.clauses.specs.Lists.{numbers, each}
-use Rattle.text.specs.Numbers.{bytes-of, decimal, longest-text}
+use Rattle.answers.specs.Lists.{numbers, each}
+use Rattle.text.specs.Numbers.{bytes-of, decimal}
+use Rattle.answers.specs.Limits.{longest-text, inputs-limit, latches-limit, gates-limit, outputs-limit}
 use Rattle.text.specs.Readings.{space-byte, newline-byte}
 use Rattle.text.proofs.Decimals.{length-within}
-use Rattle.meaning.specs.Limits.{inputs-limit, latches-limit, gates-limit, outputs-limit}
 use Rattle.meaning.specs.Problem.{word, latch-place, gate-place}
 use Rattle.meaning.specs.Check.{largest-literal}
 use Rattle.aiger.specs.declared.sizes.Kind.{Kind}

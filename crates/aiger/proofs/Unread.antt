@@ -7,7 +7,7 @@ use native.Mathlib.Nat.{zero-add}
 use borrow.Author.Tests.{le-leb}
 use lib.Dec.{eqb}
 use lib.ListN.{length, take}
-use Rattle.text.specs.Numbers.{longest-text}
+use Rattle.answers.specs.Limits.{longest-text}
 use Rattle.text.specs.Readings.{Reading, found, fault, Reader, in-turn}
 use Rattle.meaning.specs.Problem.{word}
 use Rattle.aiger.specs.Circuits.{Sizes}

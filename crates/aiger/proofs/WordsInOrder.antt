@@ -5,7 +5,7 @@ use Prim.Native.Nat.{ℕ, zero, suc, _+_, _*_, _≤_, _<_}
 use native.Mathlib.Omega.{arith}
 use lib.ListN.{length, take, drop, length-append, length-drop}
 use lib.Seq.{length-take-le, drop-cons, take-add, take-length, take-at, drop-at}
-use Rattle.clauses.specs.Lists.{numbers, each}
+use Rattle.answers.specs.Lists.{numbers, each}
 use Rattle.meaning.specs.Problem.{word, latch-place, gate-place}
 use Rattle.aiger.specs.Circuits.{Sizes, sizes, circuit, output-place, words-in-all}
 use Rattle.aiger.specs.Texts.{in-order}

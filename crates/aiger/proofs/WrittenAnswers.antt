@@ -7,20 +7,22 @@ use native.Mathlib.Omega.{arith}
 use borrow.Author.Tests.{le-leb, lt-leb, ne-eqb}
 use lib.Dec.{leb, eqb}
 use lib.ListN.{length}
-use Rattle.clauses.specs.Answers.{Check, answer, granted}
-use Rattle.clauses.proofs.Answers.{number-of}
-use Rattle.text.specs.Numbers.{longest-text}
+use Rattle.answers.specs.Answers.{Check, granted}
+use Rattle.answers.specs.Limits.{longest-text}
 use Rattle.text.specs.Promise.{largest-size}
-use Rattle.aiger.specs.declared.Outcome.{Outcome}
-use Rattle.aiger.specs.declared.Outcome.the-variants.{Done, RoomTooSmall}
-use Rattle.aiger.specs.declared.check.Part.the-variants.{Refused}
+use Rattle.problem.specs.declared.Refusal.{Refusal}
+use Rattle.problem.specs.declared.parts.PartAnswer.the-variants.{Refused}
+use Rattle.problem.specs.Promise.{refusal-answer}
+use Rattle.problem.specs.CheckParts.{Answers}
+use Rattle.problem.proofs.Unique.{refusal-not-yes}
+use Rattle.aiger.specs.declared.Outcome.the-variants.{Done, Circuit, RoomTooSmall}
 use Rattle.aiger.specs.Circuits.{Sizes, sizes, circuit-parts}
 use Rattle.aiger.specs.Texts.{sized-text, circuit-text}
 use Rattle.aiger.specs.Calls.{room-check, write-answer, room-after-writing}
 use Rattle.aiger.specs.Promise.{answer-of, WrittenAs}
 use Rattle.aiger.specs.Reads.{Fitting}
-use Rattle.aiger.specs.Writes.{Answers, Lays}
-use Rattle.aiger.proofs.CheckedCircuit.{GoodCircuit, good-by-number, handed-on, more-if-good, refused-whatever}
+use Rattle.aiger.specs.Writes.{Lays}
+use Rattle.aiger.proofs.CheckedCircuit.{GoodCircuit, more-if-good, refused-whatever}
 use Rattle.aiger.proofs.TextLengths.{text-within}
 
 -- What is checked after the words.
@@ -29,16 +31,11 @@ room-part ws room = (room-check (length (circuit-text ws)) (length room) ∷ [])
 
 -- ════════ A refusal by the check ════════
 
-module _ (ws room : List ℕ) {f : Outcome} (a : Answers (circuit-parts ws) (Refused f)) where
-  refusal-is-no-yes : answer-of f .number ≡ 0 → ⊥
-  refusal-is-no-yes e =
-      let good = good-by-number ws 0 (granted 0) (λ n l h z. omega arith) (number-of (sym (a .answered (granted 0))) ∙ e) in
-      omega (arith, e, number-of (a .answered (answer 1 0) ∙ handed-on ws (answer 1 0) good))
-
-  pub refused : WrittenAs ws room f room
+module _ (ws room : List ℕ) {f : Refusal} (a : Answers (circuit-parts ws) (Refused f)) where
+  pub refused : WrittenAs ws room (Circuit f) room
   unfolding write-answer room-after-writing
   refused =
-      let no : eqb (answer-of f .number) 0 ≡ false = ne-eqb _ 0 refusal-is-no-yes in
+      let no : eqb (refusal-answer f .number) 0 ≡ false = ne-eqb _ 0 (refusal-not-yes f) in
       record {
         answered = sym (refused-whatever ws (room-part ws room) (granted (length (circuit-text ws))) a);
         room-after = rw no;

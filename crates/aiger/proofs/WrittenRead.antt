@@ -7,11 +7,11 @@ use native.Mathlib.Omega.{arith}
 use borrow.Author.Tests.{le-leb, lt-ltb, eq-eqb, ne-eqb}
 use lib.Dec.{eqb, leb, ltb}
 use lib.ListN.{length, length-append}
-use Rattle.clauses.specs.Lists.{numbers, each}
-use Rattle.text.specs.Numbers.{bytes-of, decimal, largest-number}
+use Rattle.answers.specs.Lists.{numbers, each}
+use Rattle.text.specs.Numbers.{bytes-of, decimal}
+use Rattle.answers.specs.Limits.{largest-number, inputs-limit, latches-limit, gates-limit, outputs-limit}
 use Rattle.text.specs.Readings.{space-byte, newline-byte, parts, Reading, found, Reader, ahead, and-then, in-turn, mark, space, newline, told, number, at-most, exactly}
 use Rattle.text.proofs.ReadingLaws.{in-turn-append, in-turn-one}
-use Rattle.meaning.specs.Limits.{inputs-limit, latches-limit, gates-limit, outputs-limit}
 use Rattle.meaning.specs.Problem.{word, latch-place, gate-place}
 use Rattle.meaning.specs.Check.{largest-literal, largest-reset}
 use Rattle.aiger.specs.Circuits.{Sizes, sizes, circuit, output-place}

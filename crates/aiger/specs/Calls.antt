@@ -4,13 +4,16 @@ use mathlib.Core.List.{List, [], _∷_, _++_}
 use Prim.Native.Nat.{ℕ}
 use lib.Dec.{leb, eqb}
 use lib.ListN.{length}
-use Rattle.clauses.specs.Lists.{written}
-use Rattle.clauses.specs.Answers.{Answer, Check, check, first-failing, first-failing-part, granted}
-use Rattle.text.specs.Numbers.{longest-text}
+use Rattle.answers.specs.Lists.{written}
+use Rattle.answers.specs.Answers.{Answer, Check, answer, check, first-failing, first-failing-part, granted, output-room-too-small}
+use Rattle.answers.specs.Limits.{longest-text}
 use Rattle.text.specs.Readings.{Reading, found, fault}
-use Rattle.meaning.specs.Answers.{bad-text, output-room-too-small}
 use Rattle.aiger.specs.Circuits.{circuit-parts}
 use Rattle.aiger.specs.Texts.{circuit-text, circuit-read}
+
+-- 19: AIGER text; the fault's first byte, or the length
+abbrev pub bad-text : ℕ → Answer
+bad-text = answer 19
 
 -- "If the text is good but the room for words or for text is too small, that is refusal 27, place the words or bytes needed."
 abbrev pub room-check : ℕ → ℕ → Check

@@ -2,12 +2,11 @@
 use mathlib.Core.Path.{_≡_, refl}
 use mathlib.Core.List.{List, [], _∷_, _++_}
 use Prim.Native.Nat.{ℕ}
-use Rattle.clauses.specs.Answers.{Answer, granted}
-use Rattle.text.specs.Numbers.{bytes-of, decimal, is-number, largest-number, longest-text}
-use Rattle.meaning.specs.Limits.{inputs-limit, latches-limit, gates-limit, outputs-limit}
-use Rattle.meaning.specs.Answers.{bad-text, output-room-too-small}
+use Rattle.answers.specs.Answers.{Answer, granted, output-room-too-small}
+use Rattle.text.specs.Numbers.{bytes-of, decimal, is-number}
+use Rattle.answers.specs.Limits.{largest-number, longest-text, inputs-limit, latches-limit, gates-limit, outputs-limit}
+use Rattle.aiger.specs.Calls.{bad-text, read-answer}
 use Rattle.aiger.specs.Texts.{circuit-text, circuit-read}
-use Rattle.aiger.specs.Calls.{read-answer}
 
 -- An input and a free latch that holds what the input said last; one output, which says that both are on.
 abbrev pub sample : List ℕ

@@ -3,11 +3,10 @@ use mathlib.Core.List.{List, [], _∷_}
 use Prim.Native.Nat.{ℕ, _+_, _*_}
 use lib.Dec.{leb, eqb}
 use lib.ListN.{length}
-use Rattle.clauses.specs.Answers.{Answer, Check, check, first-failing-part, granted}
-use Rattle.meaning.specs.Limits.{inputs-limit, latches-limit, gates-limit, outputs-limit}
-use Rattle.meaning.specs.Answers.{bad-length, bad-literal}
+use Rattle.answers.specs.Answers.{Answer, Check, check, first-failing-part, granted, bad-length}
+use Rattle.answers.specs.Limits.{inputs-limit, latches-limit, gates-limit, outputs-limit}
 use Rattle.meaning.specs.Problem.{Outline, word}
-use Rattle.meaning.specs.Check.{largest-literal, limit-check, latch-checks, gate-checks, each-below}
+use Rattle.meaning.specs.Check.{largest-literal, limit-check, literal-check, latch-checks, gate-checks, each-below}
 
 pub record Sizes : Type 0 where
   pub inputs : ℕ
@@ -30,7 +29,8 @@ circuit s = record {
   latches = s .latches;
   gates = s .gates;
   constraints = 0;
-  nodes = 0;
+  written-nodes = 0;
+  formula-nodes = 0;
   bound = 0;
   width = s .inputs + s .latches + s .gates;
   latches-from = header-size;
@@ -65,7 +65,7 @@ length-checks s ws = check (eqb (length ws) (words-in-all s)) (bad-length (lengt
 
 -- "outputs at most 2W + 1"
 abbrev pub output-checks : Sizes → List ℕ → ℕ → List Check
-output-checks s ws o = check (leb (word ws (output-place s o)) (largest-literal (circuit s))) (bad-literal (output-place s o)) ∷ []
+output-checks s ws o = literal-check ws (output-place s o) (largest-literal (circuit s)) ∷ []
 
 -- The length, then the words in order.
 abbrev pub sized-parts : Sizes → List ℕ → List (List Check)

@@ -3,20 +3,17 @@ use mathlib.Core.List.{List}
 use mathlib.Core.Path.{_≡_}
 use Prim.Native.Nat.{ℕ}
 use lib.ListN.{length}
-use Rattle.clauses.specs.Answers.{Answer, granted}
-use Rattle.meaning.specs.Answers.{bad-length, outside-limits, bad-reset, bad-literal, bad-text, output-room-too-small}
+use Rattle.answers.specs.Answers.{Answer, granted, output-room-too-small}
+use Rattle.problem.specs.Promise.{refusal-answer}
+use Rattle.aiger.specs.Calls.{bad-text, read-answer, room-after-reading, write-answer, room-after-writing}
 use Rattle.aiger.specs.declared.Outcome.{Outcome}
-use Rattle.aiger.specs.declared.Outcome.the-variants.{Done, BadText, BadLength, OutsideLimits, BadReset, BadLiteral, RoomTooSmall}
-use Rattle.aiger.specs.Calls.{read-answer, room-after-reading, write-answer, room-after-writing}
+use Rattle.aiger.specs.declared.Outcome.the-variants.{Done, BadText, Circuit, RoomTooSmall}
 
 -- The number and the place of each outcome.
 abbrev pub answer-of : Outcome → Answer
 answer-of (Done n) = granted n
 answer-of (BadText p) = bad-text p
-answer-of (BadLength n) = bad-length n
-answer-of (OutsideLimits i) = outside-limits i
-answer-of (BadReset i) = bad-reset i
-answer-of (BadLiteral i) = bad-literal i
+answer-of (Circuit f) = refusal-answer f
 answer-of (RoomTooSmall n) = output-room-too-small n
 
 -- Reading: its answer, and the word room after it.

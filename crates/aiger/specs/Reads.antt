@@ -4,9 +4,9 @@ use mathlib.Core.List.{List, map}
 use mathlib.Core.Path.{_≡_}
 use Prim.Native.Nat.{ℕ, _+_, _*_, _≤_}
 use lib.ListN.{take, drop}
-use Rattle.clauses.specs.Lists.{numbers}
+use Rattle.answers.specs.Lists.{numbers}
 use Rattle.text.specs.Readings.{Reading, found, fault, Reader, and-then}
-use Rattle.meaning.specs.Limits.{inputs-limit, latches-limit, gates-limit, outputs-limit}
+use Rattle.answers.specs.Limits.{inputs-limit, latches-limit, gates-limit, outputs-limit}
 use Rattle.aiger.specs.Circuits as circuits
 use Rattle.aiger.specs.Texts.{input-literal, latch-literal, gate-literal, input-due, latch-due, output-due, gate-due, in-order, circuit-read}
 use Rattle.aiger.specs.declared.due.Reached.{Reached}

@@ -4,10 +4,10 @@ use mathlib.Core.List.{List, [], _∷_, _++_, map}
 use Prim.Native.Nat.{ℕ, _+_, _*_}
 use lib.Dec.{eqb, ltb}
 use lib.ListN.{take, drop}
-use Rattle.clauses.specs.Lists.{numbers, each}
-use Rattle.text.specs.Numbers.{bytes-of, decimal, largest-number}
+use Rattle.answers.specs.Lists.{numbers, each}
+use Rattle.text.specs.Numbers.{bytes-of, decimal}
+use Rattle.answers.specs.Limits.{largest-number, inputs-limit, latches-limit, gates-limit, outputs-limit}
 use Rattle.text.specs.Readings.{space-byte, newline-byte, Reading, found, fault, Reader, ahead, in-turn, space, newline, told, number, at-most, exactly}
-use Rattle.meaning.specs.Limits.{inputs-limit, latches-limit, gates-limit, outputs-limit}
 use Rattle.meaning.specs.Problem.{word, latch-place, gate-place}
 use Rattle.meaning.specs.Check.{largest-literal, gate-limit}
 use Rattle.aiger.specs.Circuits.{Sizes, sizes, circuit, output-place}

@@ -1,37 +1,19 @@
 -- What the inner functions of writing promise: the parts of the check, and texts one after another. Assumes nothing.
-use mathlib.Core.List.{List, [], _++_}
+use mathlib.Core.List.{List, []}
 use mathlib.Core.Path.{_≡_}
 use Prim.Native.Nat.{ℕ, _+_, _≤_, min}
-use lib.Dec.{leb}
 use lib.ListN.{length}
-use Rattle.clauses.specs.Answers.{Answer, Check, check, first-failing-part}
+use Rattle.answers.specs.Answers.{Check}
 use Rattle.text.specs.Promise.{largest-size, placed}
-use Rattle.meaning.specs.Answers.{bad-reset, bad-literal}
-use Rattle.meaning.specs.Problem.{word, latch-place, gate-place}
-use Rattle.meaning.specs.Check.{largest-reset, latch-checks, gate-checks}
+use Rattle.meaning.specs.Problem.{latch-place, gate-place}
+use Rattle.meaning.specs.Check.{latch-checks, gate-checks}
 use Rattle.aiger.specs.Circuits as circuits
 use Rattle.aiger.specs.Circuits.{circuit, output-place, output-checks}
 use Rattle.aiger.specs.Texts.{input-line, latch-line, output-line, gate-line}
-use Rattle.aiger.specs.Promise.{answer-of}
-use Rattle.aiger.specs.declared.check.Part.{Part}
-use Rattle.aiger.specs.declared.check.Part.the-variants.{Passed, Refused}
 use Rattle.aiger.specs.declared.sizes.Kind.{Kind}
 use Rattle.aiger.specs.declared.sizes.Kind.the-variants.{Input, Latch, Output, Gate}
 
 -- ════════ The check ════════
-
--- A refusal is the answer, whatever would come after it; where all passes, what comes after is.
-abbrev pub answer-then : Part → Answer → Answer
-answer-then Passed after = after
-answer-then (Refused f) after = answer-of f
-
--- The answer to some parts of the check.
-pub record Answers (ps : List (List Check)) (r : Part) : Type 0 where
-  pub answered : (after : Answer) → answer-then r after ≡ first-failing-part ps after
-
--- Two parts one after the other.
-pub record Joined (first second r : Part) : Type 0 where
-  pub answers : (xs ys : List (List Check)) → Answers xs first → Answers ys second → Answers (xs ++ ys) r
 
 -- Where the words of a latch, an output or a gate begin; an input has none.
 abbrev pub place-of : Kind → circuits.Sizes → ℕ → ℕ
@@ -39,13 +21,6 @@ place-of Input s i = 0
 place-of Latch s i = latch-place (circuit s) i
 place-of Output s i = output-place s i
 place-of Gate s i = gate-place (circuit s) i
-
--- A literal's word is at most so large; a reset's is at most 2.
-abbrev pub literal-check : List ℕ → ℕ → ℕ → Check
-literal-check ws at most = check (leb (word ws at) most) (bad-literal at)
-
-abbrev pub reset-check : List ℕ → ℕ → Check
-reset-check ws at = check (leb (word ws at) largest-reset) (bad-reset at)
 
 -- The checks of the words of each kind; an input has none.
 abbrev pub checks-of : Kind → circuits.Sizes → List ℕ → ℕ → List Check

@@ -1,5 +1,7 @@
 // The number and place of each answer.
 use crate::Outcome;
+use problem::answer::refusal_number;
+use problem::answer::refusal_place;
 ghost use mathlib.Core.Path.{_≡_};
 ghost use Rattle.aiger.specs.Promise.{answer-of};
 
@@ -9,10 +11,7 @@ pub fn number(a: Outcome) -> u32
     match a {
         Outcome::Done(_) => 0,
         Outcome::BadText(_) => 19,
-        Outcome::BadLength(_) => 1,
-        Outcome::OutsideLimits(_) => 2,
-        Outcome::BadReset(_) => 3,
-        Outcome::BadLiteral(_) => 4,
+        Outcome::Circuit(f) => refusal_number(f),
         Outcome::RoomTooSmall(_) => 27,
     }
 }
@@ -23,10 +22,7 @@ pub fn place(a: Outcome) -> usize
     match a {
         Outcome::Done(n) => n,
         Outcome::BadText(n) => n,
-        Outcome::BadLength(n) => n,
-        Outcome::OutsideLimits(n) => n,
-        Outcome::BadReset(n) => n,
-        Outcome::BadLiteral(n) => n,
+        Outcome::Circuit(f) => refusal_place(f),
         Outcome::RoomTooSmall(n) => n,
     }
 }

@@ -1,24 +1,33 @@
-// The check of a circuit's words, 1 to 4, in document 02's order: parts one after another, each of which passes or refuses.
-use crate::Outcome;
+// The check of a circuit's words, 1 to 4, in document 02's order, by the parts of a problem's check.
 use crate::sizes::HEADER_WORDS;
 use crate::sizes::Kind;
-use crate::sizes::OUTPUTS_LIMIT;
 use crate::sizes::Sizes;
 use crate::sizes::count;
-use crate::sizes::largest_literal;
-use crate::sizes::literal;
+use crate::sizes::width;
 use crate::sizes::words_in_all;
-use problem::limits::GATES_LIMIT;
-use problem::limits::INPUTS_LIMIT;
-use problem::limits::LATCHES_LIMIT;
+use answers::limits::GATES_LIMIT;
+use answers::limits::INPUTS_LIMIT;
+use answers::limits::LATCHES_LIMIT;
+use answers::limits::OUTPUTS_LIMIT;
+use problem::Outline;
+use problem::Refusal;
+use problem::parts::PartAnswer;
+use problem::parts::gate;
+use problem::parts::largest_literal;
+use problem::parts::latch;
+use problem::parts::limit;
+use problem::parts::literal;
+use problem::parts::then;
+use problem::read::word_at;
 ghost use mathlib.Core.Path.{_≡_};
 ghost use mathlib.Core.List.{[], _∷_};
 ghost use Prim.Native.Nat.{_<_};
-ghost use Rattle.meaning.specs.Problem.{word};
-ghost use Rattle.meaning.specs.Check.{limit-check, each-below};
-ghost use Rattle.aiger.specs.Circuits.{header-checks, limit-checks, length-checks, sizes, sized-parts, circuit-parts};
+ghost use Rattle.meaning.specs.Check.{each-below};
+ghost use Rattle.problem.specs.Promise.{outline-of};
+ghost use Rattle.problem.specs.CheckParts.{Answers};
+ghost use Rattle.aiger.specs.Circuits.{circuit, header-checks, limit-checks, length-checks, sizes, sized-parts, circuit-parts};
 ghost use Rattle.aiger.specs.Reads.{sizes-of, Fitting, count-of};
-ghost use Rattle.aiger.specs.Writes.{Answers, Joined, checks-of, place-of, literal-check, reset-check};
+ghost use Rattle.aiger.specs.Writes.{checks-of, place-of};
 
 // The places of I, L, A and O.
 const INPUTS: usize = 0;
@@ -28,22 +37,6 @@ const LATCHES: usize = 1;
 const GATES: usize = 2;
 
 const OUTPUTS: usize = 3;
-
-// "reset over 2" is refused.
-const LARGEST_RESET: u32 = 2;
-
-// What a part of the check answers.
-pub(crate) enum Part {
-    Passed,
-    Refused(Outcome),
-}
-
-// The word at a place, or 0 past the end.
-pub(crate) fn word_at(words: &[u32], at: usize) -> u32
-    ensures { λ r. ⌜ r ≡ word (now (words .entry)) at ⌝ }
-{
-    if at < words.len() { words[at] } else { 0 }
-}
 
 // The sizes that words tell.
 pub(crate) fn sizes(words: &[u32]) -> Sizes
@@ -57,54 +50,58 @@ pub(crate) fn sizes(words: &[u32]) -> Sizes
     }
 }
 
-// Two parts one after the other: the first that refuses gives the answer.
-fn then(first: Part, second: Part) -> Part
-    ensures { λ r. ⌜ Joined first second r ⌝ }
+// The outline by which a circuit's latches and gates are checked as those of a problem.
+fn circuit(s: Sizes) -> Outline
+    requires { ⌜ Fitting (sizes-of s) ⌝ }
+    ensures { λ r. ⌜ outline-of r ≡ circuit (sizes-of s) ⌝ }
 {
-    match first {
-        Part::Passed => second,
-        Part::Refused(f) => Part::Refused(f),
+    let latches_from = HEADER_WORDS as u32;
+    let gates_from = latches_from + 2 * s.latches;
+    let outputs_from = gates_from + 2 * s.gates;
+    Outline {
+        inputs: s.inputs,
+        latches: s.latches,
+        gates: s.gates,
+        constraints: 0,
+        written_nodes: 0,
+        formula_nodes: 0,
+        bound: 0,
+        width: width(s),
+        latches_from,
+        gates_from,
+        constraints_from: outputs_from,
+        nodes_from: outputs_from,
     }
 }
 
-fn header(words: &[u32]) -> Part
+fn header(words: &[u32]) -> PartAnswer
     ensures { λ r. ⌜ Answers (header-checks (now (words .entry)) ∷ []) r ⌝ }
 {
     if words.len() < HEADER_WORDS {
-        return Part::Refused(Outcome::BadLength(words.len()));
+        return PartAnswer::Refused(Refusal::BadLength(words.len()));
     }
-    Part::Passed
+    PartAnswer::Passed
 }
 
-// The header's word at a place is within its limit.
-fn limit(words: &[u32], at: usize, most: u32) -> Part
-    ensures { λ r. ⌜ Answers ((limit-check (now (words .entry)) at 0 most ∷ []) ∷ []) r ⌝ }
-{
-    if most < word_at(words, at) {
-        return Part::Refused(Outcome::OutsideLimits(at));
-    }
-    Part::Passed
-}
-
-fn limits(words: &[u32]) -> Part
+fn limits(words: &[u32]) -> PartAnswer
     ensures { λ r. ⌜ Answers (limit-checks (now (words .entry)) ∷ []) r ⌝ }
 {
     let to_latches = then(
-        limit(words, INPUTS, INPUTS_LIMIT),
-        limit(words, LATCHES, LATCHES_LIMIT),
+        limit(words, INPUTS, 0, INPUTS_LIMIT),
+        limit(words, LATCHES, 0, LATCHES_LIMIT),
     );
-    let to_gates = then(to_latches, limit(words, GATES, GATES_LIMIT));
-    then(to_gates, limit(words, OUTPUTS, OUTPUTS_LIMIT))
+    let to_gates = then(to_latches, limit(words, GATES, 0, GATES_LIMIT));
+    then(to_gates, limit(words, OUTPUTS, 0, OUTPUTS_LIMIT))
 }
 
-fn length(words: &[u32], s: Sizes) -> Part
+fn length(words: &[u32], s: Sizes) -> PartAnswer
     requires { ⌜ Fitting (sizes-of s) ⌝ }
     ensures { λ r. ⌜ Answers (length-checks (sizes-of s) (now (words .entry)) ∷ []) r ⌝ }
 {
     if words.len() != words_in_all(s) {
-        return Part::Refused(Outcome::BadLength(words.len()));
+        return PartAnswer::Refused(Refusal::BadLength(words.len()));
     }
-    Part::Passed
+    PartAnswer::Passed
 }
 
 // Where the words of a latch, an output or a gate begin; an input has none.
@@ -122,46 +119,22 @@ pub(crate) fn place(s: Sizes, kind: Kind, i: u32) -> usize
     }
 }
 
-// A literal's word is at most so large.
-fn at_most(words: &[u32], at: usize, most: u32) -> Part
-    ensures { λ r. ⌜ Answers ((literal-check (now (words .entry)) at most ∷ []) ∷ []) r ⌝ }
-{
-    if most < word_at(words, at) {
-        return Part::Refused(Outcome::BadLiteral(at));
-    }
-    Part::Passed
-}
-
-// A latch's reset.
-fn reset(words: &[u32], at: usize) -> Part
-    ensures { λ r. ⌜ Answers ((reset-check (now (words .entry)) at ∷ []) ∷ []) r ⌝ }
-{
-    if LARGEST_RESET < word_at(words, at) {
-        return Part::Refused(Outcome::BadReset(at));
-    }
-    Part::Passed
-}
-
 // The words of one of a kind.
-fn one(words: &[u32], s: Sizes, kind: Kind, i: u32) -> Part
+fn one(words: &[u32], s: Sizes, kind: Kind, i: u32) -> PartAnswer
     requires { ⌜ Fitting (sizes-of s) × (i < count-of kind (sizes-of s)) ⌝ }
     ensures { λ r. ⌜ Answers (checks-of kind (sizes-of s) (now (words .entry)) i ∷ []) r ⌝ }
 {
-    let at = place(s, kind, i);
-    let most = largest_literal(s);
+    let o = circuit(s);
     match kind {
-        Kind::Input => Part::Passed,
-        Kind::Latch => then(at_most(words, at, most), reset(words, at + 1)),
-        Kind::Output => at_most(words, at, most),
-        Kind::Gate => {
-            let below = literal(s, kind, i) - 1;
-            then(at_most(words, at, below), at_most(words, at + 1, below))
-        }
+        Kind::Input => PartAnswer::Passed,
+        Kind::Latch => latch(words, o, i),
+        Kind::Output => literal(words, place(s, kind, i), largest_literal(o)),
+        Kind::Gate => gate(words, o, i),
     }
 }
 
 // All of a kind, in their order.
-fn all(words: &[u32], s: Sizes, kind: Kind) -> Part
+fn all(words: &[u32], s: Sizes, kind: Kind) -> PartAnswer
     requires { ⌜ Fitting (sizes-of s) ⌝ }
     ensures { λ r. ⌜ Answers (each-below (count-of kind (sizes-of s)) (checks-of kind (sizes-of s) (now (words .entry))) ∷ []) r ⌝ }
 {
@@ -169,16 +142,16 @@ fn all(words: &[u32], s: Sizes, kind: Kind) -> Part
     let mut i: u32 = 0;
     while i < n {
         let r = one(words, s, kind, i);
-        let Part::Passed = r else {
+        let PartAnswer::Passed = r else {
             return r;
         };
         i += 1;
     }
-    Part::Passed
+    PartAnswer::Passed
 }
 
 // The length, then the words in order.
-fn sized(words: &[u32], s: Sizes) -> Part
+fn sized(words: &[u32], s: Sizes) -> PartAnswer
     requires { ⌜ Fitting (sizes-of s) ⌝ }
     ensures { λ r. ⌜ Answers (sized-parts (sizes-of s) (now (words .entry))) r ⌝ }
 {
@@ -188,12 +161,12 @@ fn sized(words: &[u32], s: Sizes) -> Part
 }
 
 // 1 to 4.
-pub(crate) fn check(words: &[u32]) -> Part
+pub(crate) fn check(words: &[u32]) -> PartAnswer
     ensures { λ r. ⌜ Answers (circuit-parts (now (words .entry))) r ⌝ }
 {
     let opening = then(header(words), limits(words));
     match opening {
-        Part::Passed => sized(words, sizes(words)),
-        Part::Refused(f) => Part::Refused(f),
+        PartAnswer::Passed => sized(words, sizes(words)),
+        PartAnswer::Refused(f) => PartAnswer::Refused(f),
     }
 }

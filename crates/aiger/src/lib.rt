@@ -7,13 +7,12 @@ pub mod read;
 mod sizes;
 pub mod write;
 
+use problem::Refusal;
+
 // The answers to reading and to writing; `answer` gives the number and the place of each.
 pub enum Outcome {
     Done(usize),
     BadText(usize),
-    BadLength(usize),
-    OutsideLimits(usize),
-    BadReset(usize),
-    BadLiteral(usize),
+    Circuit(Refusal),
     RoomTooSmall(usize),
 }

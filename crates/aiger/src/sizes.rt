@@ -6,9 +6,6 @@ ghost use Rattle.aiger.specs.Circuits.{circuit, words-in-all};
 ghost use Rattle.aiger.specs.Texts.{largest-variable};
 ghost use Rattle.aiger.specs.Reads.{sizes-of, Fitting, count-of, literal-of};
 
-// "O is 0 to 64"; the other limits are those of a problem.
-pub(crate) const OUTPUTS_LIMIT: u32 = 64;
-
 // The words of the header: I, L, A, O.
 pub(crate) const HEADER_WORDS: usize = 4;
 

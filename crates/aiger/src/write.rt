@@ -1,10 +1,8 @@
 // Writes a circuit's text.
 use crate::Outcome;
-use crate::check::Part;
 use crate::check::check;
 use crate::check::place;
 use crate::check::sizes;
-use crate::check::word_at;
 use crate::due::NEWLINE;
 use crate::due::SPACE;
 use crate::sizes::Kind;
@@ -12,11 +10,13 @@ use crate::sizes::Sizes;
 use crate::sizes::count;
 use crate::sizes::literal;
 use crate::sizes::width;
+use problem::parts::PartAnswer;
+use problem::read::word_at;
 use text::put::put_bytes;
 use text::put::put_ended;
 ghost use mathlib.Core.List.{_++_};
 ghost use Prim.Native.Nat.{_<_};
-ghost use Rattle.clauses.specs.Lists.{numbers, each};
+ghost use Rattle.answers.specs.Lists.{numbers, each};
 ghost use Rattle.text.specs.Readings.{space-byte, newline-byte};
 ghost use Rattle.aiger.specs.Texts.{ended, header-line, next-text, sized-text};
 ghost use Rattle.aiger.specs.Promise.{WrittenAs};
@@ -113,8 +113,8 @@ fn text(words: &[u32], s: Sizes, out: &mut [u8]) -> usize
 pub fn write(words: &[u32], out: &mut [u8]) -> Outcome
     ensures { λ r. ⌜ WrittenAs (now (words .entry)) (now (out .entry)) r (now (out .exit)) ⌝ }
 {
-    if let Part::Refused(f) = check(words) {
-        return f;
+    if let PartAnswer::Refused(f) = check(words) {
+        return Outcome::Circuit(f);
     }
     let s = sizes(words);
     let mut none = [0u8; 1];

@@ -1,8 +1,8 @@
 // Lines of text, gathered in a lent buffer. A place is where the next byte goes; a buffer that is full is written out at once.
 use crate::input::Fault;
+use clauses::literals::variable;
 use libc::STDERR_FILENO;
 use libc::STDOUT_FILENO;
-use refutation::literals::variable;
 ghost use Prim.Native.Nat.{_<_};
 ghost use Rattle.ask.specs.Capacities.{line-bytes};
 

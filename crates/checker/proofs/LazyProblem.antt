@@ -6,11 +6,12 @@ use Prim.Native.Nat.{ℕ}
 use native.Mathlib.Omega.{arith}
 use lib.IntN.{ℤ, pos}
 use lib.ListN.{length, replicate, getD}
-use Rattle.clauses.specs.Answers.{Answer}
+use Rattle.answers.specs.Lists.{written}
+use Rattle.answers.specs.Answers.{Answer}
 use Rattle.clauses.specs.Cases.{T-cnf, T-steps, T-other-steps}
 use Rattle.clauses.specs.Clauses.{variable-of}
 use Rattle.clauses.specs.Refutations.{refutation-checks, area-checks, step-accepted, area-after}
-use Rattle.meaning.specs.Limits.{inputs-limit, latches-limit, gates-limit, nodes-limit, bound-limit, constraints-limit}
+use Rattle.answers.specs.Limits.{inputs-limit, latches-limit, gates-limit, nodes-limit, bound-limit, constraints-limit}
 use Rattle.meaning.specs.Problem.{header-words, problem-by, problem}
 use Rattle.meaning.specs.Cnf.{cnf, cnf-words, variables}
 use Rattle.meaning.specs.Cases.{T-words}
@@ -81,6 +82,18 @@ T-short = over T-words bad-hint 36 7 13
 abbrev pub T-few : Input
 T-few = over T-words T-steps 37 7 12
 
+-- A word by numbers too few.
+abbrev pub T-few-numbers : Input
+T-few-numbers = over T-words T-steps 37 6 13
+
+-- Areas of one length, of which each has room for either.
+abbrev pub T-even : Input
+T-even = over T-words T-steps 37 13 13
+
+-- 0 1 0: T's clause 1 is (1), and no conflict. Of these words read as a CNF clause 1 is empty.
+abbrev pub T-by-itself : Input
+T-by-itself = over T-words (pos 0 ∷ pos 1 ∷ pos 0 ∷ []) 37 7 13
+
 -- Another version.
 abbrev pub T-unknown : Input
 T-unknown = record { version = 9; words = T-words; refutation = T-steps; room = []; numbers = []; clauses = [] }
@@ -132,6 +145,14 @@ pub small-area-meets : Meets T-few (AreaTooSmall 13) (replicate 37 (pos 9)) (rep
 unfolding laid-down room-after-judging numbers-area-after clauses-area-after area-after
 small-area-meets = meets T-few (AreaTooSmall 13) refl
 
+pub few-numbers-meets : Meets T-few-numbers (AreaTooSmall 7) (replicate 37 (pos 9)) (replicate 6 9) (replicate 13 9)
+unfolding laid-down room-after-judging numbers-area-after clauses-area-after area-after
+few-numbers-meets = meets T-few-numbers (AreaTooSmall 7) refl
+
+pub even-areas-meet : Meets T-even Yes T-cnf (written (replicate 7 0) (replicate 13 9)) (replicate 13 0)
+unfolding laid-down header-words problem-by problem cnf cnf-words variables room-after-judging numbers-area-after clauses-area-after area-after
+even-areas-meet = meets T-even Yes refl
+
 pub other-version-meets : Meets T-unknown (Problem BadVersion) [] [] []
 unfolding laid-down room-after-judging numbers-area-after clauses-area-after area-after
 other-version-meets = meets T-unknown (Problem BadVersion) refl
@@ -163,6 +184,15 @@ module _ (r : Refuted) (room′ : List ℤ) (numbers′ clauses′ : List ℕ) w
   unfolding laid-down
   other-bound-breaks = other-answer-breaks (meets T-longer (StepRefused 0) refl) (λ e. let z : _≡_ {A = ℕ} 0 1 = cc in omega arith)
 
+  -- The refutation judged against itself: yes to what is 13 at 0.
+  pub other-clauses-judged-breaks : Breaks T-by-itself Yes room′ numbers′ clauses′
+  unfolding laid-down
+  other-clauses-judged-breaks = other-answer-breaks (meets T-by-itself (StepRefused 0) refl) (λ e. let z : _≡_ {A = ℕ} 0 1 = cc in omega arith)
+
+  -- A word by numbers for each of 1..V, and none for 0.
+  pub made-up-numbers-need-breaks : (n : ℕ) → ¬ (n ≡ 7) → Breaks T-few-numbers (AreaTooSmall n) room′ numbers′ clauses′
+  made-up-numbers-need-breaks n h = other-answer-breaks few-numbers-meets (λ e. h (cc))
+
 -- ════════ Buffers ════════
 
 -- The first word of a room tells 9 from T's CNF.
@@ -181,6 +211,16 @@ module _ (r : Refuted) (numbers′ clauses′ : List ℕ) where
   pub written-before-areas-breaks : Breaks T-few r T-cnf numbers′ clauses′
   unfolding first-word
   written-before-areas-breaks = other-room-breaks small-area-meets (λ e. let z : _≡_ {A = ℕ} 1 9 = ap first-word e in omega arith)
+
+  -- As where 6 words by numbers are taken for enough.
+  pub numbers-one-word-short-breaks : Breaks T-few-numbers r T-cnf numbers′ clauses′
+  unfolding first-word
+  numbers-one-word-short-breaks = other-room-breaks few-numbers-meets (λ e. let z : _≡_ {A = ℕ} 1 9 = ap first-word e in omega arith)
+
+-- Each area is left as the other should be.
+pub areas-exchanged-breaks : (r : Refuted) (room′ : List ℤ) → Breaks T-even r room′ (replicate 13 0) (written (replicate 7 0) (replicate 13 9))
+areas-exchanged-breaks r room′ =
+    other-numbers-breaks even-areas-meet (λ e. let z : _≡_ {A = ℕ} 0 9 = ap (λ (ns : List ℕ). getD ns 7 0) e in omega arith)
 
 -- A work word that is not 0, at any place, after yes and after 13.
 module _ (r : Refuted) (room′ : List ℤ) (numbers′ clauses′ : List ℕ) where

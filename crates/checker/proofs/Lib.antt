@@ -1,9 +1,5 @@
--- The plain mathematics of the crate's proofs, and the demands on one page.
+-- The plain mathematics of the crate's proofs, that the promise decides the answer, and that wrong versions break it.
+pub mod Preparing
 pub mod ProblemRefutation
 pub mod RefutedUnique
 pub mod LazyProblem
-pub mod CallsMean
-pub mod Refutable
-pub mod ByRecord
-pub mod OtherCalls
-pub mod Demands

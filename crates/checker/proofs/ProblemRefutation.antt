@@ -10,14 +10,15 @@ use lib.IntN.{ℤ}
 use lib.Dec.{leb}
 use lib.ListN.{length, take, drop, length-append}
 use lib.Seq.{take-append-seam}
-use Rattle.clauses.specs.Limits.{variables-limit}
-use Rattle.clauses.specs.Lists.{all-of, numbered, joined}
-use Rattle.clauses.specs.Answers.{Answer, Check, check, granted, bad-cnf}
+use Rattle.answers.specs.Limits.{variables-limit}
+use Rattle.answers.specs.Lists.{all-of, numbered, joined}
+use Rattle.answers.specs.Answers.{Answer, Check, check, granted, bad-cnf}
 use Rattle.clauses.specs.Clauses.{Clause, Within, variable-of, literal-within}
 use Rattle.clauses.specs.CnfWords.{ended-by-0, words-of, cnf-checks}
 use Rattle.clauses.specs.Refutations.{steps-of, refutation-checks, area-checks, judge-steps, judge-clauses, judge-cnf, judged, area-after}
-use Rattle.clauses.proofs.Satisfaction.{both-true, first-true, second-true, all-of-append, all-of-numbered}
-use Rattle.clauses.proofs.Answers.{passing, other-than, number-after, first-failing-passed, first-failing-joined, numbered-passing, number-of, steps-judged, cnf-judged, clauses-judged}
+use Rattle.answers.proofs.Tests.{both-true, first-true, second-true, all-of-append, all-of-numbered}
+use Rattle.answers.proofs.Answers.{passing, other-than, number-after, first-failing-passed, first-failing-joined, numbered-passing, number-of}
+use Rattle.clauses.proofs.Judges.{steps-judged, cnf-judged, clauses-judged}
 use Rattle.clauses.proofs.ReadBack.{words-ended}
 use Rattle.refutation.specs.declared.RefutationAnswer.{RefutationAnswer}
 use Rattle.refutation.specs.declared.RefutationAnswer.the-variants as cnf-answers
@@ -37,9 +38,9 @@ use Rattle.problem.specs.declared.Refusal.the-variants.{BadVersion, BadLength, 
 use Rattle.problem.specs.Promise.{refusal-answer}
 use Rattle.problem.proofs.Formed.{passes-if-handed-on}
 use Rattle.counts.specs.declared.Counts.{Counts}
-use Rattle.encoder.specs.declared.Prepared.{Prepared}
-use Rattle.encoder.specs.declared.Prepared.the-variants as prepared
-use Rattle.encoder.specs.Preparing.{prepared-then, PreparedAs}
+use Rattle.checker.specs.declared.prepare.Prepared.{Prepared}
+use Rattle.checker.specs.declared.prepare.Prepared.the-variants as prepared
+use Rattle.checker.specs.Preparing.{prepared-then, PreparedAs}
 use Rattle.checker.specs.declared.Refuted.{Refuted}
 use Rattle.checker.specs.declared.Refuted.the-variants as answers
 use Rattle.checker.specs.Refutation.{refuted-answer, refuted-of, CnfHeld, JudgedFor, JudgedAs}

@@ -4,7 +4,7 @@ use mathlib.Core.List.{List, [], _∷_}
 use Prim.Native.Nat.{ℕ}
 use lib.IntN.{ℤ}
 use lib.ListN.{getD}
-use Rattle.clauses.specs.Answers.{Answer}
+use Rattle.answers.specs.Answers.{Answer}
 use Rattle.meaning.specs.Calls.{room-after-judging, numbers-area-after, clauses-area-after}
 use Rattle.problem.specs.declared.Refusal.the-variants.{BadVersion, BadLength, OutsideLimits, BadReset, BadLiteral, BadNode}
 use Rattle.checker.specs.declared.Refuted.{Refuted}

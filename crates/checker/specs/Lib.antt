@@ -1,2 +1,3 @@
--- What judging a refutation of a problem's CNF promises.
+-- What preparing and judging a refutation of a problem's CNF promise.
+pub mod Preparing
 pub mod Refutation

@@ -4,11 +4,10 @@ use mathlib.Core.List.{List}
 use Prim.Native.Nat.{ℕ, _≤_}
 use lib.IntN.{ℤ}
 use lib.ListN.{length, take}
-use Rattle.clauses.specs.Answers.{Answer, granted, bad-refutation, area-too-small, step-refused, not-closed}
+use Rattle.answers.specs.Answers.{Answer, granted, bad-refutation, area-too-small, step-refused, not-closed, room-too-small}
 use Rattle.clauses.specs.Refutations.{steps-of, judge-clauses, numbers-area, clauses-area, area-after}
 use Rattle.refutation.specs.declared.RefutationAnswer.{RefutationAnswer}
 use Rattle.refutation.specs.declared.RefutationAnswer.the-variants as cnf-answers
-use Rattle.meaning.specs.Answers.{room-too-small}
 use Rattle.meaning.specs.Problem as problems
 use Rattle.meaning.specs.Problem.{problem}
 use Rattle.meaning.specs.Proper.{Proper}

@@ -1,8 +1,8 @@
 // Judges a refutation of a problem's CNF, which is written into a lent room.
 use crate::Refuted;
+use crate::prepare::Prepared;
+use crate::prepare::prepare;
 use counts::Counts;
-use encoder::Prepared;
-use encoder::prepare::prepare;
 use refutation::RefutationAnswer;
 use refutation::judge::judge;
 ghost use mathlib.Core.Path.{_≡_};

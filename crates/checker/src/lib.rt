@@ -1,6 +1,7 @@
-// Judges a refutation of a problem's CNF. The demands stand as theorems in proofs/Demands.antt.
+// Judges a refutation of a problem's CNF.
 pub mod answer;
 pub mod judge;
+mod prepare;
 
 use problem::Refusal;
 

@@ -8,13 +8,13 @@ use borrow.Author.Tests.{le-leb}
 use lib.IntN.{ℤ, pos, negsuc}
 use lib.Dec.{leb}
 use lib.ListN.{length}
-use Rattle.clauses.specs.Lists.{all-of, numbered}
-use Rattle.clauses.specs.Limits.{variables-limit}
-use Rattle.clauses.specs.Answers.{check, bad-cnf}
+use Rattle.answers.specs.Lists.{all-of, numbered}
+use Rattle.answers.specs.Limits.{variables-limit}
+use Rattle.answers.specs.Answers.{check, bad-cnf}
 use Rattle.clauses.specs.Clauses.{Clause, Within, variable-of}
 use Rattle.clauses.specs.CnfWords.{clauses-of, in-front, ended, cnf-checks}
-use Rattle.clauses.proofs.Satisfaction.{first-true, second-true, all-of-first, all-of-second}
-use Rattle.clauses.proofs.Answers.{passing, numbered-passing}
+use Rattle.answers.proofs.Tests.{first-true, second-true, all-of-first, all-of-second}
+use Rattle.answers.proofs.Answers.{passing, numbered-passing}
 
 module _ (variables : ℕ) where
   abbrev small : ℤ → Bool

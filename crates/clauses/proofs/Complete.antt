@@ -7,11 +7,11 @@ use native.Mathlib.Nat.{lt-of-lt-of-le}
 use native.Mathlib.Omega.{arith}
 use lib.ListN.{length, getD, length-append}
 use lib.Seq.{getD-append-seam}
-use Rattle.clauses.specs.Lists.{all-of}
+use Rattle.answers.specs.Lists.{all-of}
 use Rattle.clauses.specs.Clauses.{Clause, Assignment, clause-true, all-true, Satisfies, literal-within, Within}
 use Rattle.clauses.specs.Refutations.{Step, step}
 use Rattle.clauses.specs.Refutable.{Refutation}
-use Rattle.clauses.proofs.Satisfaction.{false-if-not-true, all-of-at}
+use Rattle.answers.proofs.Tests.{false-if-not-true, all-of-at}
 use Rattle.clauses.proofs.Derivations.{clauses-after-all, clauses-after-append, Extends, extends-self, extends-twice, extends-after-all, RightStep, RightSteps, right-append, last-empty, refutation-by}
 use Rattle.clauses.proofs.Splits.{denials, leaf-right, split-right}
 

@@ -9,15 +9,15 @@ use native.Mathlib.Omega.{arith}
 use lib.IntN.{ℤ, pos, negsuc}
 use lib.Dec.{leb, leb·zero, leb·suc-suc}
 use lib.ListN.{length, getD, length-append, List·getD-append}
-use Rattle.clauses.specs.Lists.{all-of}
-use Rattle.clauses.specs.Answers.{Answer, Check, first-failing, granted}
+use Rattle.answers.specs.Lists.{all-of}
+use Rattle.answers.specs.Answers.{Answer, Check, first-failing, granted}
 use Rattle.clauses.specs.Clauses.{Clause, variable-of, literal-within}
 use Rattle.clauses.specs.CnfWords.{ended-by-0}
 use Rattle.clauses.specs.Refutations.{Step, step, words-of-steps, step-accepted, clause-numbered, with-step, step-checks, last-is-empty, last-is-empty-after, judge-steps}
 use Rattle.clauses.specs.Refutable.{Refutation}
-use Rattle.clauses.proofs.Satisfaction.{both-true, first-true, second-true, all-of-weaker}
+use Rattle.answers.proofs.Tests.{both-true, first-true, second-true, all-of-weaker}
 use Rattle.clauses.proofs.ReadBack.{not-0, StepsNoZeros, step-first, steps-back, steps-whole, within-not-0}
-use Rattle.clauses.proofs.Answers.{first-failing-append, first-failing-passed}
+use Rattle.answers.proofs.Answers.{first-failing-append, first-failing-passed}
 use Rattle.clauses.proofs.WordByWord.{Part, literals, hints, word-checks, words-right, words-right-is, whole-is, word-by-word}
 
 -- ════════ Clauses after steps ════════

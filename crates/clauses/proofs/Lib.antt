@@ -1,8 +1,7 @@
 -- What follows from the definitions of specs/.
 pub mod Satisfaction
 pub mod Signs
-pub mod PutAt
-pub mod Answers
+pub mod Judges
 pub mod WordByWord
 pub mod Lookups
 pub mod StepRule

@@ -7,7 +7,7 @@ use native.Mathlib.Nat.{not-suc-le-zero, le-of-suc-le-suc}
 use lib.ListN.{length, getD}
 use Rattle.clauses.specs.Clauses.{Clause, Assignment, clause-true, all-true, Satisfies}
 use Rattle.clauses.specs.Refutations.{SatisfiesNamed, clause-numbered}
-use Rattle.clauses.proofs.Satisfaction.{first-true, second-true}
+use Rattle.answers.proofs.Tests.{first-true, second-true}
 
 -- The clause at a place has the number after it.
 pub numbered-some : (cs : List Clause) (n : ℕ) → n < length cs → clause-numbered cs (suc n) ≡ some (getD cs n [])

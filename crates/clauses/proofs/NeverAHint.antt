@@ -7,11 +7,12 @@ use mathlib.Core.Option.{Option, none, some}
 use Prim.Native.Nat.{ℕ, zero, suc}
 use native.Mathlib.Omega.{arith}
 use lib.IntN.{ℤ, pos, negsuc, pos-ne-negsuc}
-use Rattle.clauses.specs.Lists.{all-of, empty}
+use Rattle.answers.specs.Lists.{all-of, empty}
 use Rattle.clauses.specs.Clauses.{Clause, negated, same, among}
 use Rattle.clauses.specs.CnfWords.{is-0}
 use Rattle.clauses.specs.Refutations.{Step, Lookup, Outcome, conflict, unit, neither, both-signs, not-false, outcome-of, outcome, outcome-if-any, hint-outcome, hints-conflict, step-accepted}
-use Rattle.clauses.proofs.Satisfaction.{not-both, false-if-not-true, all-of-member, those-member, eq-if-same, among-if-member, member-if-among, member-of-negated, negated-negated}
+use Rattle.answers.proofs.Tests.{not-both, false-if-not-true, all-of-member, those-member}
+use Rattle.clauses.proofs.Satisfaction.{eq-if-same, among-if-member, member-if-among, member-of-negated, negated-negated}
 use Rattle.clauses.proofs.StepRule.{by-no-hints, by-hints, Clash, clash, both-signs-if, unit-open}
 
 -- ════════ What is set has one sign ════════

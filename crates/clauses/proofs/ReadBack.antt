@@ -10,11 +10,11 @@ use borrow.Author.Tests.{not-true}
 use lib.IntN.{ℤ, pos, negsuc}
 use lib.Dec.{leb}
 use lib.ListN.{length}
-use Rattle.clauses.specs.Lists.{all-of}
+use Rattle.answers.specs.Lists.{all-of}
 use Rattle.clauses.specs.Clauses.{Clause, size, literal-within, Within}
 use Rattle.clauses.specs.CnfWords.{ended-by-0, words-of, in-front, clauses-of, is-0, ended-after, ended}
 use Rattle.clauses.specs.Refutations.{Step, paired, steps-of, step-words, words-of-steps, whole}
-use Rattle.clauses.proofs.Satisfaction.{first-true, second-true, not-both, all-of-weaker}
+use Rattle.answers.proofs.Tests.{first-true, second-true, not-both, all-of-weaker}
 use Rattle.clauses.proofs.WordByWord.{Part, literals, hints, other, part-at-end, whole-is}
 
 -- ════════ Words that are no 0 ════════

@@ -6,14 +6,15 @@ use Prim.Native.Nat.{ℕ, _≤_}
 use borrow.Author.Tests.{le-leb}
 use lib.IntN.{ℤ}
 use lib.ListN.{length}
-use Rattle.clauses.specs.Lists.{all-of}
-use Rattle.clauses.specs.Answers.{first-failing, granted}
+use Rattle.answers.specs.Lists.{all-of}
+use Rattle.answers.specs.Answers.{first-failing, granted}
 use Rattle.clauses.specs.Clauses.{Clause, Assignment, Satisfies}
 use Rattle.clauses.specs.CnfWords.{clauses-of, cnf-checks}
 use Rattle.clauses.specs.Refutations.{Step, steps-of, words-of-steps, refutation-checks, area-checks, numbers-area, clauses-area, judge-steps, judge-cnf}
 use Rattle.clauses.specs.Refutable.{Refutation, WordsFit, AcceptedWords}
-use Rattle.clauses.proofs.Satisfaction.{both-true}
-use Rattle.clauses.proofs.Answers.{passing, first-failing-passed, all-pass-if-granted, cnf-checks-refusing, refutation-checks-refusing}
+use Rattle.answers.proofs.Tests.{both-true}
+use Rattle.answers.proofs.Answers.{passing, first-failing-passed, all-pass-if-granted}
+use Rattle.clauses.proofs.Judges.{cnf-checks-refusing, refutation-checks-refusing}
 use Rattle.clauses.proofs.CnfPassed.{cnf-right}
 use Rattle.clauses.proofs.WordSizes.{passed-words-fit}
 use Rattle.clauses.proofs.Complete.{refutable}

@@ -7,15 +7,17 @@ use mathlib.Core.Option.{Option, none, some}
 use Prim.Native.Nat.{ℕ, zero, suc}
 use lib.IntN.{ℤ, pos, negsuc}
 use lib.ListN.{getD}
-use Rattle.clauses.specs.Lists.{all-of, empty}
-use Rattle.clauses.specs.Answers.{granted}
+use Rattle.answers.specs.Lists.{all-of, empty}
+use Rattle.answers.specs.Answers.{granted}
 use Rattle.clauses.specs.Clauses.{Clause, Assignment, Satisfies, literal-true, clause-true, negated, same, among}
 use Rattle.clauses.specs.CnfWords.{clauses-of, is-0}
 use Rattle.clauses.specs.Refutations.{Step, Lookup, SatisfiesNamed, Outcome, conflict, unit, neither, both-signs, not-false, outcome-of, outcome, outcome-if-any, clause-numbered, hint-outcome, hints-conflict, step-accepted, with-step, step-checks, last-is-empty, judge-steps, judge-clauses, judge-cnf, steps-of}
-use Rattle.clauses.proofs.Satisfaction.{both-true, first-true, second-true, or-second, not-both, false-if-not-true, all-of-member, all-of-if-member, all-of-map, those-member, eq-if-same, member-if-among, not-true-both-ways, satisfies-append, true-literal, false-literal}
+use Rattle.answers.proofs.Tests.{both-true, first-true, second-true, or-second, not-both, false-if-not-true, all-of-member, all-of-if-member, all-of-map, those-member}
+use Rattle.clauses.proofs.Satisfaction.{eq-if-same, member-if-among, not-true-both-ways, satisfies-append, true-literal, false-literal}
 use Rattle.clauses.proofs.Lookups.{numbered-satisfied}
 use Rattle.clauses.proofs.StepRule.{by-hints, trivially-true}
-use Rattle.clauses.proofs.Answers.{passing, steps-granted, clauses-granted, cnf-granted}
+use Rattle.answers.proofs.Answers.{passing}
+use Rattle.clauses.proofs.Judges.{steps-granted, clauses-granted, cnf-granted}
 
 -- ════════ What a hint gives is true ════════
 

@@ -10,10 +10,11 @@ use borrow.Author.Tests.{leb-true, le-leb}
 use lib.IntN.{ℤ, pos, negsuc, pos-ne-negsuc}
 use lib.Dec.{leb}
 use lib.ListN.{length, getD}
-use Rattle.clauses.specs.Lists.{all-of}
+use Rattle.answers.specs.Lists.{all-of}
 use Rattle.clauses.specs.Clauses.{Clause, Assignment, negated, variable-of, literal-true, clause-true, literal-within, among}
 use Rattle.clauses.specs.Refutations.{step, both-signs, not-false, unit, outcome-of, outcome, hint-outcome, hints-conflict, clause-numbered}
-use Rattle.clauses.proofs.Satisfaction.{both-true, second-true, false-if-not-true, all-of-member, among-if-member, member-if-among, member-of-negated, false-literal, variable-of-negated}
+use Rattle.answers.proofs.Tests.{both-true, second-true, false-if-not-true, all-of-member}
+use Rattle.clauses.proofs.Satisfaction.{among-if-member, member-if-among, member-of-negated, false-literal, variable-of-negated}
 use Rattle.clauses.proofs.Lookups.{numbered-some}
 use Rattle.clauses.proofs.StepRule.{by-hints, clash}
 use Rattle.clauses.proofs.Derivations.{names-one-of, RightStep}

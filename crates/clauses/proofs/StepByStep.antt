@@ -10,14 +10,15 @@ use lib.IntN.{ℤ}
 use lib.Dec.{eqb}
 use lib.ListN.{length, getD, take, length-append}
 use lib.Seq.{getD-append-seam}
-use Rattle.clauses.specs.Lists.{all-of}
-use Rattle.clauses.specs.Answers.{Answer, answer, first-failing, granted, step-refused, not-closed}
+use Rattle.answers.specs.Lists.{all-of}
+use Rattle.answers.specs.Answers.{Answer, answer, first-failing, granted, step-refused, not-closed}
 use Rattle.clauses.specs.Clauses.{Clause}
 use Rattle.clauses.specs.CnfWords.{clauses-of, cnf-checks}
 use Rattle.clauses.specs.Refutations.{Step, step, steps-of, step-accepted, clause-numbered, with-step, refutation-checks, area-checks, step-checks, closing-checks, judge-steps, judge-cnf}
-use Rattle.clauses.proofs.Satisfaction.{first-true, second-true}
+use Rattle.answers.proofs.Tests.{first-true, second-true}
 use Rattle.clauses.proofs.Lookups.{numbered-some}
-use Rattle.clauses.proofs.Answers.{number-of, place-of, passing, first-failing-passed, passed-by-number, after-by-number, number-after, cnf-checks-other, refutation-checks-other, area-checks-other, step-checks-other, cnf-judged, clauses-judged}
+use Rattle.answers.proofs.Answers.{number-of, place-of, passing, first-failing-passed, passed-by-number, after-by-number, number-after}
+use Rattle.clauses.proofs.Judges.{cnf-checks-other, refutation-checks-other, area-checks-other, step-checks-other, cnf-judged, clauses-judged}
 use Rattle.clauses.proofs.Derivations.{clauses-after-all, extends-after-all}
 
 -- Step i, and the clauses that its hints can name: the given ones, and those of the steps before it.

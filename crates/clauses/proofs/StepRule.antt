@@ -6,11 +6,12 @@ use Prim.Native.Nat.{ℕ}
 use native.Mathlib.Omega.{arith}
 use borrow.Author.Tests.{not-true}
 use lib.IntN.{ℤ}
-use Rattle.clauses.specs.Lists.{all-of, empty}
+use Rattle.answers.specs.Lists.{all-of, empty}
 use Rattle.clauses.specs.Clauses.{Clause, Assignment, literal-true, clause-true, negated, same, among}
 use Rattle.clauses.specs.CnfWords.{is-0}
 use Rattle.clauses.specs.Refutations.{Step, Lookup, unit, neither, both-signs, not-false, outcome-of, outcome, hints-conflict, step-accepted}
-use Rattle.clauses.proofs.Satisfaction.{first-true, second-true, both-true, some-of-member, some-of-witness, of-those, those-pass, among-if-member, member-if-among, literal-true-negated}
+use Rattle.answers.proofs.Tests.{first-true, second-true, both-true, some-of-member, some-of-witness, of-those, those-pass}
+use Rattle.clauses.proofs.Satisfaction.{among-if-member, member-if-among, literal-true-negated}
 
 -- ════════ The two ways ════════
 

@@ -12,12 +12,12 @@ use lib.IntN.{ℤ, pos, negsuc}
 use lib.Dec.{leb}
 use lib.ListN.{length, take, length-append}
 use lib.Seq.{take-append-seam}
-use Rattle.clauses.specs.Lists.{all-of, numbered}
-use Rattle.clauses.specs.Answers.{Check, check, bad-refutation}
+use Rattle.answers.specs.Lists.{all-of, numbered}
+use Rattle.answers.specs.Answers.{Check, check, bad-refutation}
 use Rattle.clauses.specs.Clauses.{size}
 use Rattle.clauses.specs.CnfWords.{is-0, ended}
 use Rattle.clauses.specs.Refutations.{zeros, even, earlier, word-right, whole, refutation-checks}
-use Rattle.clauses.proofs.Answers.{passing}
+use Rattle.answers.proofs.Answers.{passing}
 
 -- ════════ Part by part ════════
 

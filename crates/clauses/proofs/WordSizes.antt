@@ -10,14 +10,14 @@ use lib.Dec.{leb, ltb}
 use lib.ListN.{length, getD}
 use mir.Syntax.{w32}
 use mir.Val.{SFits}
-use Rattle.clauses.specs.Lists.{all-of}
-use Rattle.clauses.specs.Answers.{check, bad-refutation}
+use Rattle.answers.specs.Lists.{all-of}
+use Rattle.answers.specs.Answers.{check, bad-refutation}
 use Rattle.clauses.specs.Clauses.{Clause, size}
 use Rattle.clauses.specs.CnfWords.{in-front, clauses-of}
 use Rattle.clauses.specs.Refutations.{paired, steps-of, refutation-checks}
 use Rattle.clauses.specs.Refutable.{WordsFit}
-use Rattle.clauses.proofs.Satisfaction.{both-true, first-true, second-true, all-of-first, all-of-at}
-use Rattle.clauses.proofs.Answers.{passing}
+use Rattle.answers.proofs.Tests.{both-true, first-true, second-true, all-of-first, all-of-at}
+use Rattle.answers.proofs.Answers.{passing}
 use Rattle.clauses.proofs.WordByWord.{Part, literals, hints, word-checks, whole-by-parts, words-right, words-right-is, word-by-word}
 
 -- ════════ Words from a part of a step on ════════

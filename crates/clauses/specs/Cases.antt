@@ -5,8 +5,8 @@ use mathlib.Core.Bool.{true, false}
 use mathlib.Core.List.{List, [], _∷_}
 use mathlib.Core.Option.{none}
 use lib.IntN.{ℤ, pos}
-use Rattle.clauses.specs.Limits.{variables-limit}
-use Rattle.clauses.specs.Answers.{answer}
+use Rattle.answers.specs.Limits.{variables-limit}
+use Rattle.answers.specs.Answers.{answer}
 use Rattle.clauses.specs.Clauses.{minus}
 use Rattle.clauses.specs.CnfWords.{cnf-checks}
 use Rattle.clauses.specs.Refutations.{step, judge-cnf, refutation-checks, area-checks, step-accepted, both-signs}

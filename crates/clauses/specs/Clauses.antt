@@ -6,7 +6,7 @@ use Prim.Native.Nat.{ℕ, zero, suc}
 use lib.IntN.{ℤ, pos, negsuc, negℤ}
 use lib.Dec.{leb, eqb}
 use lib.ListN.{getD}
-use Rattle.clauses.specs.Lists.{some-of, all-of}
+use Rattle.answers.specs.Lists.{some-of, all-of}
 
 abbrev pub Clause : Type 0
 Clause = List ℤ

@@ -5,9 +5,9 @@ use Prim.Native.Nat.{ℕ, zero, suc}
 use lib.IntN.{ℤ, pos, negsuc}
 use lib.Dec.{leb}
 use lib.ListN.{length}
-use Rattle.clauses.specs.Lists.{each, numbered}
-use Rattle.clauses.specs.Limits.{variables-limit}
-use Rattle.clauses.specs.Answers.{Check, check, bad-cnf}
+use Rattle.answers.specs.Lists.{each, numbered}
+use Rattle.answers.specs.Limits.{variables-limit}
+use Rattle.answers.specs.Answers.{Check, check, bad-cnf}
 use Rattle.clauses.specs.Clauses.{Clause, size}
 
 -- The words of clauses: each clause's literals, then 0.

@@ -5,7 +5,7 @@ use mathlib.Core.List.{List}
 use Prim.Native.Nat.{ℕ, max, _+_, _≤_, _<_}
 use lib.IntN.{ℤ, pos}
 use lib.ListN.{length, getD}
-use Rattle.clauses.specs.Answers.{first-failing, granted}
+use Rattle.answers.specs.Answers.{first-failing, granted}
 use Rattle.clauses.specs.Clauses.{Clause, size}
 use Rattle.clauses.specs.CnfWords.{clauses-of}
 use Rattle.clauses.specs.Refutations.{Step, steps-of, words-of-steps, refutation-checks, judge-steps, judge-cnf, numbers-area, clauses-area}

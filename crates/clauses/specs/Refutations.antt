@@ -7,8 +7,8 @@ use Prim.Native.Nat.{ℕ, zero, suc, _+_, _/_, _%_}
 use lib.IntN.{ℤ, pos, negsuc}
 use lib.Dec.{leb, ltb, eqb}
 use lib.ListN.{length, getElem?, replicate, take}
-use Rattle.clauses.specs.Lists.{each, numbered, some-of, all-of, those, empty, written}
-use Rattle.clauses.specs.Answers.{Answer, Check, check, first-failing-part, granted, bad-refutation, area-too-small, step-refused, not-closed}
+use Rattle.answers.specs.Lists.{each, numbered, some-of, all-of, those, empty, written}
+use Rattle.answers.specs.Answers.{Answer, Check, check, first-failing-part, granted, bad-refutation, area-too-small, step-refused, not-closed}
 use Rattle.clauses.specs.Clauses.{Clause, Assignment, clause-true, negated, size, same, among}
 use Rattle.clauses.specs.CnfWords.{ended-by-0, clauses-of, ended, is-0, cnf-checks}
 

@@ -1,1 +1,2 @@
-// A pure crate: the definitions are in specs/, their laws in proofs/.
+// Clauses, and refutations of them, as definitions and theorems. Of code only what a literal's word says of its variable.
+pub mod literals;

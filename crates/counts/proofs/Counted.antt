@@ -5,8 +5,8 @@ use Prim.Native.Nat.{_<_}
 use native.Mathlib.Omega.{arith}
 use borrow.Author.Tests.{lt-ltb}
 use lib.Dec.{ltb}
-use Rattle.clauses.proofs.Satisfaction.{both-true, those-few}
-use Rattle.meaning.specs.Limits.{inputs-limit, latches-limit, gates-limit, nodes-limit, bound-limit, constraints-limit}
+use Rattle.answers.proofs.Tests.{both-true, those-few}
+use Rattle.answers.specs.Limits.{inputs-limit, latches-limit, gates-limit, nodes-limit, bound-limit, constraints-limit}
 use Rattle.meaning.specs.Problem.{Problem, Latch}
 use Rattle.meaning.specs.Proper.{Proper}
 use Rattle.meaning.proofs.ClosedForms.{tally, variable-count, clause-count, word-count}

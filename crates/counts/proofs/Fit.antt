@@ -6,7 +6,7 @@ use native.Mathlib.Nat.{mul-le-mul, mul-le-mul-left}
 use native.Mathlib.Omega.{arith}
 use borrow.Author.Tests.{ltb-true}
 use lib.Dec.{ltb}
-use Rattle.clauses.proofs.Satisfaction.{first-true, second-true}
+use Rattle.answers.proofs.Tests.{first-true, second-true}
 use Rattle.meaning.proofs.ClosedForms.{Tally, node-count, pairs}
 use Rattle.counts.specs.declared.total.Weights.{Weights}
 use Rattle.counts.specs.Promise.{too-many, few}

@@ -3,7 +3,7 @@ use mathlib.Core.Bool.{Bool, cond, _&&_}
 use Prim.Native.Nat.{ℕ, suc}
 use lib.Dec.{ltb}
 use lib.ListN.{length}
-use Rattle.clauses.specs.Lists.{sum}
+use Rattle.answers.specs.Lists.{sum}
 use Rattle.meaning.specs.Problem.{Problem}
 use Rattle.meaning.specs.Cnf.{variables, cnf, cnf-words}
 use Rattle.meaning.proofs.ClosedForms as forms

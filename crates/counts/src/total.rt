@@ -4,7 +4,7 @@ use crate::Tally;
 ghost use mathlib.Core.Path.{_≡_};
 ghost use mathlib.Core.Bool.{true};
 ghost use Prim.Native.Nat.{ℕ, suc};
-ghost use Rattle.clauses.specs.Lists.{sum};
+ghost use Rattle.answers.specs.Lists.{sum};
 ghost use Rattle.meaning.proofs.ClosedForms.{variables-of, item-totals};
 ghost use Rattle.counts.specs.Promise.{tally-of, few, counts-by};
 ghost use Rattle.counts.specs.Weighing.{Light, Weighs};

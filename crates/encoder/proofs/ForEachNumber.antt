@@ -7,7 +7,7 @@ use native.Mathlib.Numerals.{add-one}
 use native.Mathlib.Omega.{arith}
 use lib.IntN.{ℤ}
 use lib.ListN.{length, length-append}
-use Rattle.clauses.specs.Lists.{numbers, each}
+use Rattle.answers.specs.Lists.{numbers, each}
 use Rattle.clauses.specs.Clauses.{Clause}
 use Rattle.clauses.specs.CnfWords.{words-of}
 use Rattle.meaning.specs.Problem.{Problem}

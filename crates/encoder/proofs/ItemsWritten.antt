@@ -4,7 +4,7 @@ use mathlib.Core.List.{List, [], _∷_}
 use Prim.Native.Nat.{ℕ}
 use native.Mathlib.Nat.{add-zero}
 use lib.IntN.{ℤ}
-use Rattle.clauses.specs.Lists.{joined}
+use Rattle.answers.specs.Lists.{joined}
 use Rattle.clauses.specs.Clauses.{Clause}
 use Rattle.clauses.specs.CnfWords.{words-of}
 use Rattle.encoder.specs.Writing.{Wrote, Room}

@@ -1,17 +1,17 @@
 -- CNF writers that are lazy or wrong do not meet the promise: for each an input, what the promise gives there, and what they give.
 -- Assumes nothing.
-use mathlib.Core.Path.{_≡_, refl, ap}
+use mathlib.Core.Path.{_≡_, refl, sym, _∙_, ap}
 use mathlib.Core.List.{List, [], _∷_}
 use Prim.Native.Nat.{ℕ, _≤_, _<_}
 use native.Mathlib.Omega.{arith}
 use borrow.Author.Tests.{le-leb, lt-leb}
 use lib.IntN.{ℤ, pos}
-use lib.ListN.{length, replicate, getD, length-replicate, getD-replicate}
-use Rattle.clauses.specs.Lists.{written}
+use lib.ListN.{length, replicate, getD, drop, length-replicate, getD-replicate, List·getD-append}
+use Rattle.answers.specs.Lists.{written}
 use Rattle.clauses.specs.Cases.{T-cnf}
 use Rattle.clauses.specs.Clauses.{negated}
-use Rattle.clauses.specs.Answers.{Answer}
-use Rattle.meaning.specs.Limits.{inputs-limit, latches-limit, gates-limit, nodes-limit, bound-limit, constraints-limit}
+use Rattle.answers.specs.Answers.{Answer}
+use Rattle.answers.specs.Limits.{inputs-limit, latches-limit, gates-limit, nodes-limit, bound-limit, constraints-limit}
 use Rattle.meaning.specs.Problem.{header-words, problem-by, problem}
 use Rattle.meaning.specs.Cnf.{true-literal, false-literal, variables, cnf, cnf-words}
 use Rattle.meaning.specs.Calls.{write-cnf, room-after-writing}
@@ -223,6 +223,25 @@ module _ (r : Encoded) where
   -- Word 45 is Q(1,1) in the second clause of Q(1,0).
   pub g-ended-with-false-breaks : Breaks G r (G-ended-with false-literal)
   g-ended-with-false-breaks = other-word-breaks G-meets 45 (λ e. let z : _≡_ {A = ℕ} 0 1 = cc in omega arith)
+
+-- Whatever the words: at yes each word of the CNF stands in its place.
+module _ (x : Input) (n : Counts) (after : List ℤ) where
+  pub other-cnf-word-breaks : (i : ℕ) → i < length (cnf-words (problem (x .version) (x .words)))
+      → ¬ (getD after i (pos 0) ≡ getD (cnf-words (problem (x .version) (x .words))) i (pos 0)) → Breaks x (Written n) after
+  unfolding room-after-writing
+  other-cnf-word-breaks i l h j =
+      let ws = cnf-words (problem (x .version) (x .words)) in
+      h (ap (λ ws. getD ws i (pos 0)) (j .room-after) ∙ List·getD-append ws (drop (length ws) (x .room)) (pos 0) i l)
+
+  -- The first clause is (1), and here another.
+  pub first-clause-negated-breaks : getD after 0 (pos 0) ≡ minus 1 → Breaks x (Written n) after
+  unfolding cnf cnf-words
+  first-clause-negated-breaks is = other-cnf-word-breaks 0 (omega arith) (λ e. let z : _≡_ {A = ℕ} 1 0 = cc in omega arith)
+
+  -- The word after it is the 0 that ends it, and here what the room held, as where each word is written two places on.
+  pub word-left-out-breaks : getD after 1 (pos 0) ≡ getD (x .room) 1 (pos 0) → ¬ (getD (x .room) 1 (pos 0) ≡ pos 0) → Breaks x (Written n) after
+  unfolding cnf cnf-words
+  word-left-out-breaks is other = other-cnf-word-breaks 1 (omega arith) (λ e. other (sym is ∙ e))
 
 module _ (r : Encoded) (after : List ℤ) where
   -- Word 37 is the first one past the CNF.

@@ -7,7 +7,7 @@ use native.Mathlib.Omega.{arith}
 use lib.IntN.{ℤ, pos}
 use lib.ListN.{length, replicate, take}
 use lib.Seq.{take-at}
-use Rattle.clauses.specs.Lists.{written}
+use Rattle.answers.specs.Lists.{written}
 use Rattle.clauses.specs.Clauses.{Clause}
 use Rattle.clauses.specs.CnfWords.{words-of}
 use Rattle.meaning.specs.Problem.{Problem, latch-variable, latch, constraint, header-words, problem-by, problem}
@@ -19,7 +19,7 @@ use Rattle.problem.proofs.LazyCounts.{numbers-of}
 use Rattle.encoder.specs.declared.Encoded.{Encoded}
 use Rattle.encoder.specs.declared.Encoded.the-variants.{Written}
 use Rattle.encoder.specs.Promise.{EncodedAs}
-use Rattle.encoder.proofs.WrongConstraints.{after-resets, at-first-positions, by-constraint, false-as-true, after-resets-differs, fewer-words, by-constraint-differs, false-as-true-differs}
+use Rattle.encoder.proofs.WrongConstraints.{after-resets, at-first-positions, by-constraint, over-position-0, false-as-true, after-resets-differs, fewer-words, by-constraint-differs, false-as-true-differs}
 use Rattle.encoder.proofs.Lazy.{Input, Meets, Breaks, laid-down, meets, other-word-breaks}
 
 -- ════════ Whatever the words ════════
@@ -100,6 +100,11 @@ module _ (r : Encoded) where
   pub C-only-below-k-breaks : LeavingBreaks (at-first-positions (problem 2 C-words) 2)
   unfolding header-words problem-by problem cnf cnf-words
   C-only-below-k-breaks = other-word-breaks C-meets 10 (λ e. let z : _≡_ {A = ℕ} 1 3 = cc in omega arith)
+
+  -- Word 6 is -3, and here the latch's -2 again.
+  pub C-over-position-0-breaks : LeavingBreaks (over-position-0 (problem 2 C-words))
+  unfolding header-words problem-by problem cnf cnf-words
+  C-over-position-0-breaks = other-word-breaks C-meets 6 (λ e. let z : _≡_ {A = ℕ} 1 2 = cc in omega arith)
 
   -- Word 4 is -1, and here -3, and 1.
   pub C-by-constraint-breaks : LeavingBreaks (by-constraint (problem 2 C-words))

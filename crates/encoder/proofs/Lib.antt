@@ -8,9 +8,8 @@ pub mod WithinLimits
 pub mod CircuitLiterals
 pub mod OpForms
 pub mod RoomAnswers
-pub mod Preparing
-pub mod PreparedUnique
 pub mod Unique
+pub mod WrittenCnf
 pub mod Lazy
 pub mod LazyLimits
 pub mod WrongConstraints

@@ -9,7 +9,7 @@ use lib.IntN.{ℤ}
 use lib.ListN.{length, set, length-append}
 use Rattle.clauses.specs.Clauses.{Clause}
 use Rattle.clauses.specs.CnfWords.{words-of}
-use Rattle.clauses.proofs.PutAt.{put-at-none, put-at-one, put-at-length, put-at-then}
+use Rattle.answers.proofs.PutAt.{put-at-none, put-at-one, put-at-length, put-at-then}
 use Rattle.meaning.proofs.ItemByItem.{words-append}
 use Rattle.encoder.specs.Writing.{Wrote, Room}
 

@@ -6,9 +6,8 @@ use native.Mathlib.Nat.{zero-add}
 use borrow.Author.Tests.{le-leb, lt-leb, ne-eqb}
 use lib.IntN.{ℤ}
 use lib.ListN.{length}
-use Rattle.clauses.specs.Answers.{granted}
+use Rattle.answers.specs.Answers.{granted, room-too-small}
 use Rattle.clauses.specs.CnfWords.{words-of}
-use Rattle.meaning.specs.Answers.{room-too-small}
 use Rattle.meaning.specs.Problem as problems
 use Rattle.meaning.specs.Cnf.{cnf, cnf-words}
 use Rattle.meaning.specs.Calls.{room-after-writing}

@@ -4,8 +4,8 @@ use mathlib.Core.List.{List}
 use Prim.Native.Nat.{ℕ}
 use native.Mathlib.Omega.{arith}
 use lib.IntN.{ℤ}
-use Rattle.clauses.specs.Answers.{Answer}
-use Rattle.clauses.proofs.Answers.{number-of, place-of}
+use Rattle.answers.specs.Answers.{Answer}
+use Rattle.answers.proofs.Answers.{number-of, place-of}
 use Rattle.meaning.specs.Problem as problems
 use Rattle.meaning.specs.Calls.{room-after-writing}
 use Rattle.problem.specs.declared.Refusal.{Refusal}

@@ -9,7 +9,7 @@ use mir.Syntax.{w32}
 use mir.Val.{toZ}
 use mir.Facts.{toZ-pos}
 use Rattle.clauses.specs.Clauses.{negated}
-use Rattle.meaning.specs.Limits.{inputs-limit, latches-limit, gates-limit, nodes-limit, bound-limit}
+use Rattle.answers.specs.Limits.{inputs-limit, latches-limit, gates-limit, nodes-limit, bound-limit}
 use Rattle.meaning.specs.Problem.{Problem}
 use Rattle.meaning.specs.Cnf.{circuit-variable, literal-at, node-variables, E, P, Q}
 use Rattle.problem.specs.declared.Outline.{Outline}

@@ -4,7 +4,7 @@ use mathlib.Core.Path.{_≡_, refl}
 use mathlib.Core.List.{List, []}
 use Prim.Native.Nat.{ℕ, _+_, _*_, _^_, _<_, _≤_}
 use native.Mathlib.Omega.{arith}
-use Rattle.meaning.specs.Limits.{inputs-limit, latches-limit, gates-limit, nodes-limit}
+use Rattle.answers.specs.Limits.{inputs-limit, latches-limit, gates-limit, nodes-limit}
 use Rattle.meaning.specs.Problem.{Problem, Node, Left, constant, child, latch, gate, constraint, node}
 use Rattle.meaning.specs.Proper.{LeftProper}
 use Rattle.problem.specs.declared.Outline.{Outline}
@@ -37,7 +37,7 @@ module _ {s : Outline} {ws : List ℕ} (good : ProperIn s ws) where
   unfolding inputs-limit latches-limit gates-limit
   width-word = omega (arith, width-small good)
 
-  pub nodes-within : s .nodes ≤ nodes-limit
+  pub nodes-within : s .«formula_nodes» ≤ nodes-limit
   nodes-within = rw (shows s ws .nodes-are) at (good .proper .nodes-within)
 
   pub next-within : {i : ℕ} → i < s .latches → latch (problem-in s ws) i .next ≤ 2 * s .width + 1
@@ -59,7 +59,7 @@ module _ {s : Outline} {ws : List ℕ} (good : ProperIn s ws) where
   pub constraint-within : {c : ℕ} → c < s .constraints → constraint (problem-in s ws) c ≤ 2 * s .width + 1
   constraint-within {c} l = rw (good .width-is) at (good .proper .constraints-in-range c (rw (shows s ws .constraints-are) l))
 
-  pub node-proper : {n : ℕ} {x : Node} → n < s .nodes → x ≡ node (problem-in s ws) n → NodeOf s x
+  pub node-proper : {n : ℕ} {x : Node} → n < s .«formula_nodes» → x ≡ node (problem-in s ws) n → NodeOf s x
   node-proper {n} l e = record {
     small = small;
     p = problem-in s ws;

@@ -8,7 +8,7 @@ use native.Mathlib.Omega.{arith}
 use lib.IntN.{ℤ, pos}
 use lib.ListN.{length, getD, length-append}
 use lib.Seq.{getD-append-add}
-use Rattle.clauses.specs.Lists.{numbers, each, joined}
+use Rattle.answers.specs.Lists.{numbers, each, joined}
 use Rattle.clauses.specs.Clauses.{Clause, variable-of}
 use Rattle.clauses.specs.CnfWords.{words-of}
 use Rattle.clauses.proofs.Satisfaction.{variable-of-negated}
@@ -45,6 +45,10 @@ units m n literal = each (numbers 0 m) (λ a. each (numbers 0 n) (λ b. (literal
 -- By constraint, and then by position.
 abbrev pub by-constraint : Problem → List Clause
 by-constraint p = with-constraints p (units (length (p .constraints)) (p .bound + 1) (λ c t. literal-at p t (constraint p c)))
+
+-- At each position over the variables of position 0.
+abbrev pub over-position-0 : Problem → List Clause
+over-position-0 p = with-constraints p (units (p .bound + 1) (length (p .constraints)) (λ t c. literal-at p 0 (constraint p c)))
 
 -- Literal 0 gives 1.
 abbrev false-turned : ℕ → ℤ → ℤ

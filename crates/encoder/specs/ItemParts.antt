@@ -4,7 +4,7 @@ use mathlib.Core.List.{List, [], _∷_, _++_}
 use Prim.Native.Nat.{ℕ, _+_, _-_}
 use lib.IntN.{ℤ}
 use lib.ListN.{length}
-use Rattle.clauses.specs.Lists.{numbers, each}
+use Rattle.answers.specs.Lists.{numbers, each}
 use Rattle.clauses.specs.Clauses.{Clause, negated}
 use Rattle.meaning.specs.Problem.{Problem, Node, latch, atom, both, either, next, until, release}
 use Rattle.meaning.specs.Cnf.{equal-form, or-form, and-form, until-form, release-form, positions, selector, literal-at, left-at, latch-at, next-at, latch-numbers, gate-clauses, constraint-unit, reset-unit, closing-clauses, P, P-clauses, Q-clauses, E-clauses}

@@ -3,4 +3,3 @@ pub mod Promise
 pub mod Numbering
 pub mod Writing
 pub mod ItemParts
-pub mod Preparing

@@ -4,8 +4,7 @@ use mathlib.Core.Path.{_≡_}
 use Prim.Native.Nat.{ℕ}
 use lib.IntN.{ℤ}
 use lib.ListN.{length}
-use Rattle.clauses.specs.Answers.{Answer, granted}
-use Rattle.meaning.specs.Answers.{room-too-small}
+use Rattle.answers.specs.Answers.{Answer, granted, room-too-small}
 use Rattle.meaning.specs.Problem as problems
 use Rattle.meaning.specs.Calls.{write-cnf, room-after-writing}
 use Rattle.counts.specs.Promise.{counts-of}

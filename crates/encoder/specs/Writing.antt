@@ -6,10 +6,10 @@ use Prim.Native.Nat.{ℕ, _+_, _≤_}
 use lib.IntN.{ℤ}
 use lib.Dec.{eqb}
 use lib.ListN.{length, take, drop}
-use Rattle.clauses.specs.Lists.{written}
+use Rattle.answers.specs.Lists.{written}
 use Rattle.clauses.specs.Clauses.{Clause}
 use Rattle.clauses.specs.CnfWords.{words-of}
-use Rattle.clauses.specs.Answers.{first-failing, granted}
+use Rattle.answers.specs.Answers.{first-failing, granted}
 use Rattle.meaning.specs.Problem.{Problem}
 use Rattle.meaning.specs.Cnf.{cnf-words}
 use Rattle.meaning.specs.Calls.{room-checks}

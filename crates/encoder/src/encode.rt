@@ -20,7 +20,7 @@ ghost use Rattle.encoder.specs.Promise.{EncodedAs};
 ghost use Rattle.encoder.specs.Writing.{Room, Wrote, RoomAnswered};
 
 // Items 1 to 8, the constraints after item 2, each where the one before it ends; "1. (1)."
-pub(crate) fn all_items(words: &[u32], s: Outline, room: &mut [i32]) -> usize
+fn all_items(words: &[u32], s: Outline, room: &mut [i32]) -> usize
     requires { ⌜ ProperIn s (now words) × Room 0 (cnf (problem-in s (now words))) (now room) ⌝ }
     ensures { λ r. ⌜ Wrote 0 (words-of (cnf (problem-in s (now (words .entry))))) (now (room .entry)) (now (room .exit)) r ⌝ }
 {

@@ -6,7 +6,6 @@ pub mod encode;
 mod forms;
 mod literals;
 mod nodes;
-pub mod prepare;
 mod selectors;
 mod write;
 
@@ -18,13 +17,4 @@ pub enum Encoded {
     Written(Counts),
     Problem(Refusal),
     RoomTooSmall(usize),
-}
-
-// The outcome of writing for a refutation: the numbers of the CNF that was written, or a refusal before it.
-pub enum Prepared {
-    Written(Counts),
-    Problem(Refusal),
-    RoomTooSmall(usize),
-    BadRefutation(usize),
-    AreaTooSmall(usize),
 }

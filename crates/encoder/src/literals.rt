@@ -4,7 +4,7 @@ use problem::Node;
 use problem::Outline;
 ghost use mathlib.Core.Path.{_≡_};
 ghost use Prim.Native.Nat.{_+_, _*_, _^_, _<_, _≤_};
-ghost use Rattle.meaning.specs.Limits.{nodes-limit};
+ghost use Rattle.answers.specs.Limits.{nodes-limit};
 ghost use Rattle.meaning.specs.Problem.{Problem};
 ghost use Rattle.meaning.specs.Proper.{LeftProper};
 ghost use Rattle.meaning.specs.Cnf.{circuit-variable, literal-at, selector, node-variables, E, P, Q, left-at, Q-end};

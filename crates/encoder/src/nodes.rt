@@ -19,7 +19,7 @@ ghost use mathlib.Core.List.{[], _∷_, map};
 ghost use Prim.Native.Nat.{_+_, _<_, _≤_};
 ghost use lib.ListN.{length};
 ghost use Rattle.clauses.specs.CnfWords.{words-of};
-ghost use Rattle.meaning.specs.Limits.{nodes-limit};
+ghost use Rattle.answers.specs.Limits.{nodes-limit};
 ghost use Rattle.meaning.specs.Cnf.{positions, selector, P, Q-clauses, E-clauses, E-closed, node-clauses, nodes-item};
 ghost use Rattle.problem.specs.Promise.{node-read, problem-in, ProperIn};
 ghost use Rattle.encoder.specs.Numbering.{Small, NodeOf};
@@ -154,7 +154,7 @@ fn closed(s: Outline, room: &mut [i32], at: usize, n: u32) -> usize
 }
 
 fn node_item(words: &[u32], s: Outline, room: &mut [i32], at: usize, n: u32) -> usize
-    requires { ⌜ ProperIn s (now words) × (n < s .nodes) × Room at (node-clauses (problem-in s (now words)) n) (now room) ⌝ }
+    requires { ⌜ ProperIn s (now words) × (n < s .«formula_nodes») × Room at (node-clauses (problem-in s (now words)) n) (now room) ⌝ }
     ensures { λ r. ⌜ Wrote at (words-of (node-clauses (problem-in s (now (words .entry))) n)) (now (room .entry)) (now (room .exit)) r ⌝ }
 {
     let x = node(words, s, n);
@@ -170,7 +170,7 @@ pub(crate) fn nodes(words: &[u32], s: Outline, room: &mut [i32], at: usize) -> u
 {
     let mut next = at;
     let mut n: u32 = 0;
-    while n < s.nodes {
+    while n < s.formula_nodes {
         next = node_item(words, s, room, next, n);
         n += 1;
     }
@@ -179,9 +179,9 @@ pub(crate) fn nodes(words: &[u32], s: Outline, room: &mut [i32], at: usize) -> u
 
 // "8. (P(N-1,0))."
 pub(crate) fn formula(s: Outline, room: &mut [i32], at: usize) -> usize
-    requires { ⌜ Small s × (1 ≤ s .nodes) × (s .nodes ≤ nodes-limit) × (at + 2 ≤ length (now room)) ⌝ }
-    ensures { λ r. ⌜ WroteFor s at (λ p. words-of (formula-unit p (s .nodes))) (now (room .entry)) (now (room .exit)) r ⌝ }
+    requires { ⌜ Small s × (1 ≤ s .«formula_nodes») × (s .«formula_nodes» ≤ nodes-limit) × (at + 2 ≤ length (now room)) ⌝ }
+    ensures { λ r. ⌜ WroteFor s at (λ p. words-of (formula-unit p (s .«formula_nodes»))) (now (room .entry)) (now (room .exit)) r ⌝ }
 {
-    let x = p_literal(s, s.nodes - 1, 0);
+    let x = p_literal(s, s.formula_nodes - 1, 0);
     clause1(room, at, x)
 }

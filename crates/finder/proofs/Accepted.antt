@@ -9,17 +9,16 @@ use borrow.Author.Tests.{not-true, le-leb, eq-eqb}
 use lib.Dec.{leb, eqb}
 use lib.ListN.{length, getD, take, length-map, List·getD-map, List·getD-append}
 use lib.Seq.{getD-take}
-use Rattle.clauses.specs.Lists.{numbers, numbered, all-of}
-use Rattle.clauses.specs.Answers.{Answer, Check, check, first-failing, granted}
-use Rattle.clauses.proofs.Satisfaction.{both-true, first-true, second-true, not-both, false-if-not-true, all-of-append, all-of-map}
-use Rattle.clauses.proofs.Answers.{passing, refusing}
-use Rattle.meaning.specs.Answers.{bad-witness, against-reset, constraint-broken}
+use Rattle.answers.specs.Lists.{numbers, numbered, all-of}
+use Rattle.answers.specs.Answers.{Answer, Check, check, first-failing, granted, bad-witness, against-reset}
+use Rattle.answers.proofs.Tests.{both-true, first-true, second-true, not-both, false-if-not-true, all-of-append, all-of-map}
+use Rattle.answers.proofs.Answers.{passing, refusing}
+use Rattle.meaning.specs.Witnesses.{constraint-broken, witness-length, shape-of, shape, first-latches, inputs-at, run, position, rows, byte-limit, byte-checks, reset-checks, loop-checks, position-checks}
 use Rattle.meaning.specs.Problem.{Problem, Latch, latch}
 use Rattle.meaning.specs.Runs.{values, next-values, meets-reset, meets-constraints, run-from}
 use Rattle.meaning.specs.Formulas.{formula}
 use Rattle.meaning.specs.Bounded.{Shape, prefix, lasso}
 use Rattle.meaning.specs.LassoValue.{bounded-value}
-use Rattle.meaning.specs.Witnesses.{witness-length, shape-of, shape, first-latches, inputs-at, run, position, rows, byte-limit, byte-checks, reset-checks, loop-checks, position-checks}
 use Rattle.meaning.specs.Calls.{accepted}
 use Rattle.meaning.proofs.Numbers.{all-of-numbers, all-of-numbers-if}
 use Rattle.pairing.proofs.Witnesses.{all-checks, judged-by-all, all-checks-refusing}

@@ -10,12 +10,12 @@ use native.Mathlib.Omega.{arith}
 use lib.Dec.{eqb}
 use lib.ListN.{length, getD, set, replicate, length-set, List·getD-append}
 use lib.Seq.{getD-set-same, getD-set-other, getD-append-add}
-use Rattle.meaning.specs.Limits.{bound-limit}
+use Rattle.answers.specs.Limits.{bound-limit}
 use Rattle.meaning.specs.Problem.{Problem}
 use Rattle.meaning.specs.Witnesses.{byte}
 use Rattle.problem.specs.declared.Outline.{Outline}
 use Rattle.problem.proofs.Outlines.{Shows}
-use Rattle.witness.specs.Tables.{positions-limit}
+use Rattle.values.specs.Tables.{positions-limit}
 use Rattle.finder.specs.Runs.{Held, Filled, given-limit, digit, resets, bytes-by, run-bytes, bit}
 use Rattle.finder.proofs.Digits.{none-taken, shifted, digit-shifted, length-bytes-by, bytes-by-joined, input-byte, length-resets}
 

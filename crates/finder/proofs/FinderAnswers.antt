@@ -2,26 +2,24 @@
 use mathlib.Core.Path.{_≡_, refl, sym, _∙_, ap}
 use mathlib.Core.Bool.{cond}
 use mathlib.Core.List.{List, [], _∷_}
-use Prim.Native.Nat.{ℕ, _+_, _*_, _<_, _≤_}
+use Prim.Native.Nat.{ℕ, _<_, _≤_}
 use borrow.Author.Tests.{le-leb, lt-leb, ne-eqb}
 use lib.Dec.{eqb}
 use lib.ListN.{length}
-use Rattle.clauses.specs.Lists.{written}
-use Rattle.clauses.specs.Answers.{Answer, granted}
-use Rattle.meaning.specs.Limits.{search-limit}
-use Rattle.meaning.specs.Answers.{too-much-open, witness-room-too-small, none-exists}
+use Rattle.answers.specs.Lists.{written}
+use Rattle.answers.specs.Answers.{Answer, granted}
+use Rattle.answers.specs.Limits.{search-limit}
+use Rattle.finder.specs.Calls.{too-much-open, witness-room-too-small, none-exists, open-bytes, first-found, with-first, room-after-finding}
 use Rattle.meaning.specs.Problem as problems
-use Rattle.meaning.specs.Witnesses.{witness-length, open-bytes}
-use Rattle.meaning.specs.Calls.{witnesses, first-found, with-first, room-after-finding}
+use Rattle.meaning.specs.Witnesses.{witness-length}
+use Rattle.meaning.specs.Calls.{witnesses}
 use Rattle.meaning.proofs.Check.{checked-if-well-formed}
-use Rattle.meaning.proofs.Calls.{find-witness-is}
+use Rattle.finder.proofs.FindingOrder.{find-witness-is}
 use Rattle.pairing.proofs.FirstWitness.{first-witness}
-use Rattle.problem.specs.declared.Outline.{Outline}
 use Rattle.problem.specs.declared.ProblemRecord.{ProblemRecord}
 use Rattle.problem.specs.declared.Refusal.{Refusal}
 use Rattle.problem.specs.declared.Checked.the-variants.{Good, Refused}
 use Rattle.problem.specs.Promise.{CheckedAs, refusal-answer, problem-in}
-use Rattle.problem.proofs.Outlines.{shows}
 use Rattle.problem.proofs.Unique.{refusal-not-yes}
 use Rattle.problem.proofs.Formed.{well-formed-if-good, refused-whatever}
 use Rattle.finder.specs.declared.Finding.{Finding}
@@ -49,10 +47,6 @@ module _ {version : ℕ} {ws : List ℕ} where
   }
 
 -- ════════ 17, 18 and the search ════════
-
--- The bytes needed, by the sizes of the outline.
-pub needed-by : (s : Outline) (ws : List ℕ) {n : ℕ} → n ≡ s .inputs * (s .bound + 1) → 1 + s .latches + n ≡ witness-length (problem-in s ws)
-needed-by s ws e = let z = shows s ws in rw (e, z .inputs-are, z .bound-is, z .latches-are)
 
 module _ (p : problems.Problem) {before : List ℕ} where
   pub too-much : {n : ℕ} → n ≡ open-bytes p → search-limit < n → FoundIn p before (TooMuchOpen n) before

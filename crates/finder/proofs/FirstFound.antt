@@ -7,12 +7,13 @@ use native.Mathlib.Nat.{zero-add, add-zero, suc-add, add-suc}
 use native.Mathlib.Omega.{arith}
 use lib.Dec.{eqb}
 use lib.ListN.{length, getD, replicate, length-map, length-append, length-replicate, List·getD-map}
-use Rattle.clauses.specs.Lists.{numbers, each, those}
-use Rattle.clauses.proofs.Satisfaction.{both-true, not-both, those-append}
+use Rattle.answers.specs.Lists.{numbers, each, those}
+use Rattle.answers.proofs.Tests.{both-true, not-both, those-append}
 use Rattle.meaning.specs.Problem.{Problem, Latch}
 use Rattle.meaning.specs.Proper.{Proper}
 use Rattle.meaning.specs.Runs.{meets-reset}
-use Rattle.meaning.specs.Witnesses.{all-bits, open-bytes}
+use Rattle.meaning.specs.Witnesses.{all-bits}
+use Rattle.finder.specs.Calls.{open-bytes}
 use Rattle.meaning.specs.Calls.{accepted, witnesses}
 use Rattle.meaning.proofs.Numbers.{numbers-append, each-append}
 use Rattle.finder.specs.declared.search.Best.{Best}

@@ -6,13 +6,14 @@ use Prim.Native.Nat.{ℕ, _≤_}
 use native.Mathlib.Omega.{arith}
 use borrow.Author.Tests.{le-leb}
 use lib.ListN.{length}
-use Rattle.clauses.specs.Answers.{answer}
-use Rattle.meaning.specs.Limits.{inputs-limit, latches-limit, gates-limit, nodes-limit, bound-limit, constraints-limit, search-limit}
+use Rattle.answers.specs.Answers.{answer}
+use Rattle.answers.specs.Limits.{inputs-limit, latches-limit, gates-limit, nodes-limit, bound-limit, constraints-limit, search-limit}
 use Rattle.meaning.specs.Problem.{header-words, problem-by, problem}
 use Rattle.meaning.specs.Runs.{values, next-values, meets-constraints}
 use Rattle.meaning.specs.Formulas.{formula}
 use Rattle.meaning.specs.Witnesses.{run}
-use Rattle.meaning.specs.Calls.{judge-bytes, witnesses, find-witness, room-after-finding}
+use Rattle.meaning.specs.Calls.{judge-bytes, witnesses}
+use Rattle.finder.specs.Calls.{find-witness, room-after-finding}
 use Rattle.meaning.specs.Cases.{H, engine}
 
 -- H with F 12 at k: 0 2 4 2 k, 3 0, 11 0, 2 5, 3 4, 7 9, 2 4, 0 12 0, 4 0 0

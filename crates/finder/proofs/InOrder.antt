@@ -7,12 +7,13 @@ use native.Mathlib.Nat.{zero-add, add-zero, add-suc, mul-assoc, one-mul, pow-suc
 use native.Mathlib.Omega.{arith}
 use lib.Dec.{eqb}
 use lib.ListN.{length, getD, replicate}
-use Rattle.clauses.specs.Lists.{numbers, those}
-use Rattle.clauses.proofs.Satisfaction.{those-append}
+use Rattle.answers.specs.Lists.{numbers, those}
+use Rattle.answers.proofs.Tests.{those-append}
 use Rattle.meaning.specs.Problem.{Problem, Latch}
 use Rattle.meaning.specs.Proper.{Proper}
 use Rattle.meaning.specs.Runs.{meets-reset}
-use Rattle.meaning.specs.Witnesses.{all-bits, is-free, open-bytes}
+use Rattle.meaning.specs.Witnesses.{all-bits}
+use Rattle.finder.specs.Calls.{is-free, open-bytes}
 use Rattle.meaning.proofs.Numbers.{numbers-append}
 use Rattle.pairing.proofs.BlocksOfOneLength.{map-numbers-same}
 use Rattle.finder.specs.Runs.{resets, slots, free-in, digit, bytes-by}

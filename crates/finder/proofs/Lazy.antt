@@ -10,14 +10,15 @@ use borrow.Author.Tests.{leb-true, leb-false, ne-eqb}
 use lib.Dec.{leb}
 use lib.ListN.{length, getD, take, drop}
 use lib.Seq.{take-at, drop-at}
-use Rattle.clauses.specs.Lists.{those, written}
+use Rattle.answers.specs.Lists.{those, written}
 use Rattle.clauses.specs.Clauses.{Assignment}
-use Rattle.clauses.proofs.Satisfaction.{those-few, not-both}
-use Rattle.meaning.specs.Limits.{search-limit}
+use Rattle.answers.proofs.Tests.{those-few, not-both}
+use Rattle.answers.specs.Limits.{search-limit}
 use Rattle.meaning.specs.Problem as problems
 use Rattle.meaning.specs.Runs.{meets-constraints}
-use Rattle.meaning.specs.Witnesses.{witness-length, is-free, open-bytes, at-or-before, position, Witness}
-use Rattle.meaning.specs.Calls.{WellFormed, witnesses, room-after-finding}
+use Rattle.meaning.specs.Witnesses.{witness-length, at-or-before, position, Witness}
+use Rattle.finder.specs.Calls.{is-free, open-bytes, room-after-finding}
+use Rattle.meaning.specs.Calls.{WellFormed, witnesses}
 use Rattle.meaning.proofs.Check.{proper-if-well-formed}
 use Rattle.pairing.specs.Pairs.{Model}
 use Rattle.pairing.proofs.FirstWitness.{first-witness, none-if-empty, empty-if-none, empty-is-unsatisfiable}

@@ -7,16 +7,17 @@ use Prim.Native.Nat.{ℕ, _+_, _*_, _^_}
 use native.Mathlib.Nat.{one-le-pow}
 use native.Mathlib.Omega.{arith}
 use lib.ListN.{length, replicate, getD}
-use Rattle.clauses.specs.Lists.{numbers, each}
-use Rattle.clauses.specs.Answers.{Answer}
-use Rattle.meaning.specs.Limits.{inputs-limit, latches-limit, gates-limit, nodes-limit, bound-limit, constraints-limit, search-limit}
+use Rattle.answers.specs.Lists.{numbers, each}
+use Rattle.answers.specs.Answers.{Answer}
+use Rattle.answers.specs.Limits.{inputs-limit, latches-limit, gates-limit, nodes-limit, bound-limit, constraints-limit, search-limit}
 use Rattle.meaning.specs.Problem as problems
 use Rattle.meaning.specs.Problem.{header-words, problem-by, problem}
 use Rattle.meaning.specs.Proper.{Proper}
 use Rattle.meaning.specs.Runs.{values, next-values, meets-constraints}
 use Rattle.meaning.specs.Formulas.{formula}
-use Rattle.meaning.specs.Witnesses.{run, open-bytes}
-use Rattle.meaning.specs.Calls.{accepted, WellFormed, check-problem, judge-bytes, witnesses, find-witness, room-after-finding}
+use Rattle.meaning.specs.Witnesses.{run}
+use Rattle.finder.specs.Calls.{open-bytes, find-witness, room-after-finding}
+use Rattle.meaning.specs.Calls.{accepted, WellFormed, check-problem, judge-bytes, witnesses}
 use Rattle.meaning.specs.Cases.{T-words}
 use Rattle.meaning.proofs.Check.{proper-if-well-formed}
 use Rattle.problem.specs.declared.Refusal.the-variants.{BadVersion, BadReset, BadNode}

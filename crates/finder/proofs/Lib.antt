@@ -1,4 +1,5 @@
 -- What the functions' proofs share, that the promise decides the answer, what the answers mean, and that wrong versions break the promise.
+pub mod FindingOrder
 pub mod Digits
 pub mod FromTheLast
 pub mod FirstLatches

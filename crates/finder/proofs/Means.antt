@@ -8,17 +8,17 @@ use native.Mathlib.Omega.{arith}
 use borrow.Author.Tests.{leb-true, leb-false, le-leb, lt-leb}
 use lib.Dec.{leb, lit<}
 use lib.ListN.{length}
-use Rattle.clauses.specs.Lists.{written}
+use Rattle.answers.specs.Lists.{written}
 use Rattle.clauses.specs.Clauses.{Assignment}
-use Rattle.clauses.specs.Answers.{Answer, first-failing, granted}
-use Rattle.clauses.proofs.Answers.{number-of, place-of}
-use Rattle.meaning.specs.Limits.{search-limit}
-use Rattle.meaning.specs.Answers.{too-much-open, witness-room-too-small, none-exists}
+use Rattle.answers.specs.Answers.{Answer, first-failing, granted}
+use Rattle.answers.proofs.Answers.{number-of, place-of}
+use Rattle.answers.specs.Limits.{search-limit}
+use Rattle.finder.specs.Calls.{too-much-open, witness-room-too-small, none-exists, open-bytes, finding-checks, first-found, room-after-finding}
 use Rattle.meaning.specs.Problem.{Problem, problem}
-use Rattle.meaning.specs.Witnesses.{witness-length, open-bytes, at-or-before, Witness}
-use Rattle.meaning.specs.Calls.{WellFormed, witnesses, finding-checks, first-found, room-after-finding}
+use Rattle.meaning.specs.Witnesses.{witness-length, at-or-before, Witness}
+use Rattle.meaning.specs.Calls.{WellFormed, witnesses}
 use Rattle.meaning.proofs.Check.{problem-checked, checked-if-well-formed, well-formed-if-checked, well-formed-if-over, proper-if-well-formed}
-use Rattle.meaning.proofs.Calls.{find-witness-is}
+use Rattle.finder.proofs.FindingOrder.{find-witness-is}
 use Rattle.pairing.specs.Excluded.{Excluded}
 use Rattle.pairing.specs.Pairs.{Model}
 use Rattle.pairing.proofs.FirstWitness.{first-witness, none-if-empty, empty-is-unsatisfiable, empty-excludes}

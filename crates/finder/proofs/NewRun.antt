@@ -3,7 +3,7 @@ use mathlib.Core.Bool.{false}
 use mathlib.Core.List.{[]}
 use mathlib.Core.Path.{_∙_, ap}
 use lib.ListN.{length, replicate, length-replicate, getD-replicate}
-use Rattle.witness.specs.Tables.{positions-limit}
+use Rattle.values.specs.Tables.{positions-limit}
 use Rattle.finder.specs.Runs.{Held, given-limit}
 
 pub held-new : Held (replicate positions-limit (replicate given-limit false))

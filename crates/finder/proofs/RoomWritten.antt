@@ -9,13 +9,13 @@ use native.Mathlib.Omega.{arith}
 use lib.Dec.{eqb}
 use lib.ListN.{length, getD, take, drop, set, length-map, length-drop, List·getD-map}
 use lib.Seq.{length-take-le, length-front, take-length, take-at, drop-at, take-add, drop-drop, getD-take, getD-drop, ext-getD, paste, paste-suc}
-use Rattle.clauses.specs.Lists.{written}
+use Rattle.answers.specs.Lists.{written}
 use Rattle.meaning.specs.Problem.{Problem}
 use Rattle.meaning.specs.Proper.{Proper}
 use Rattle.meaning.specs.Witnesses.{witness-length, byte}
 use Rattle.problem.specs.declared.Outline.{Outline}
 use Rattle.problem.proofs.Outlines.{Shows}
-use Rattle.witness.specs.Tables.{positions-limit}
+use Rattle.values.specs.Tables.{positions-limit}
 use Rattle.finder.specs.Runs.{run-bytes, slots, byte-of, given-limit, Held, Filled}
 use Rattle.finder.proofs.Digits.{bytes-below-2, length-run}
 

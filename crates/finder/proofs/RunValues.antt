@@ -2,7 +2,7 @@
 use mathlib.Core.Bool.{Bool, true, false}
 use mathlib.Core.List.{List, [], _∷_, _++_, append-assoc}
 use mathlib.Core.Path.{_≡_, sym, _∙_, ap, ap₂}
-use Prim.Native.Nat.{ℕ, suc, _+_, _*_, _-_, _<_, _≤_}
+use Prim.Native.Nat.{ℕ, suc, _+_, _*_, _<_, _≤_}
 use native.Mathlib.Decide.{ℕ-discrete}
 use native.Mathlib.Nat.{mul-suc, mul-le-mul-left}
 use native.Mathlib.Numerals.{add-one}
@@ -10,21 +10,22 @@ use native.Mathlib.Omega.{arith}
 use borrow.Author.Count.{below-more}
 use lib.Dec.{eqb}
 use lib.ListN.{length, getD, take, drop, set, length-drop}
-use lib.Seq.{take-add, take-suc-set, getD-take, getD-drop, length-take-le, ext-getD}
-use Rattle.clauses.specs.Lists.{all-of}
-use Rattle.meaning.specs.Limits.{inputs-limit, latches-limit, bound-limit}
+use lib.Seq.{sets, length-sets, take-add, take-suc-set, getD-take, getD-drop, length-take-le, ext-getD}
+use Rattle.answers.specs.Lists.{all-of}
+use Rattle.answers.specs.Limits.{inputs-limit, latches-limit, bound-limit}
 use Rattle.meaning.specs.Problem.{Problem, W, latch}
 use Rattle.meaning.specs.Proper.{Proper}
 use Rattle.meaning.specs.Runs.{literal-value, values, meets-constraints, with-gates}
 use Rattle.meaning.specs.Witnesses.{byte, inputs-at, position}
+use Rattle.pairing.proofs.Rows.{next-by-row}
 use Rattle.pairing.proofs.Runs.{position-first, position-inputs, position-next, length-inputs-at, length-latches}
 use Rattle.problem.specs.declared.Outline.{Outline}
 use Rattle.problem.proofs.Outlines.{Shows}
-use Rattle.witness.specs.Tables.{RowsRight, row-width, rows-room, row-in, given-width, positions-limit}
-use Rattle.witness.specs.Values.{gates-put}
-use Rattle.witness.proofs.Copies.{bit-at}
-use Rattle.witness.proofs.RowGates.{gates-there}
-use Rattle.witness.proofs.RowLaws.{beginning-stays, put-there, wide-enough, next-value-in, constraints-in-row, one-more-row}
+use Rattle.values.specs.Tables.{RowsRight, row-width, rows-room, row-in, given-width, next-in, positions-limit}
+use Rattle.values.specs.Values.{gates-put}
+use Rattle.values.proofs.Copies.{bit-at, sets-there}
+use Rattle.values.proofs.RowGates.{gates-there}
+use Rattle.values.proofs.RowLaws.{beginning-stays, put-there, wide-enough, length-next-in, next-value-in, constraints-in-row, one-more-row}
 use Rattle.finder.specs.Runs.{Held, Filled, Shown, Broken, run-bytes, given-limit, bit}
 use Rattle.finder.proofs.Digits.{length-run}
 use Rattle.finder.proofs.Filling.{held-set, bit-set, bit-other}
@@ -39,21 +40,17 @@ first-are n l xs h long same =
 
 -- After xs is put behind the first n, each of them stands there, and the first n are as they were.
 module _ (n m : ℕ) (l l′ xs : List Bool) (h : n ≤ length l) (e : take (n + m) l′ ≡ take n l ++ xs) where
-  pub put-at : (i : ℕ) → i < m → getD l′ (n + i) false ≡ getD xs i false
+  put-at : (i : ℕ) → i < m → getD l′ (n + i) false ≡ getD xs i false
   put-at i q =
       sym (getD-take m (drop n l′) i false q ∙ getD-drop n l′ i false)
       ∙ ap (λ (ys : List Bool). getD ys i false) (put-there n m l l′ xs h e)
 
-  pub put-after : (i : ℕ) → i < n → getD l′ i false ≡ getD l i false
+  put-after : (i : ℕ) → i < n → getD l′ i false ≡ getD l i false
   put-after i q =
       sym (getD-take n l′ i false q) ∙ ap (λ (ys : List Bool). getD ys i false) (beginning-stays n m l l′ xs h e)
       ∙ getD-take n l i false q
 
 -- ════════ The row of a position ════════
-
--- How many values the part of the table has that is lent for a row.
-pub lent : (from : ℕ) → (from + row-width) - from ≡ row-width
-lent from = omega arith
 
 -- Variable 0 and the bits of the position, and then the gates.
 module _ {p : Problem} (proper : Proper p) (at : ℕ) (bits table table′ : List Bool) (room : at + row-width ≤ length table)
@@ -189,12 +186,30 @@ module _ {p : Problem} {m : ℕ} where
       -- The latches of the next position, put into its row.
       module _ (h : n < s .bound) (table′ : List Bool) (right : RowsRight p (bytes p m) (n + 1) table′)
           (met : meets-constraints p (position p (bytes p m) n) ≡ true)
-          (row : List Bool) (long : length row ≡ length (getD run (n + 1) []))
-          (latches : (i : ℕ) → i < s .latches → getD row (s .inputs + i) false ≡ literal-value (row-in table′ n) (latch p i .next))
-          (inputs : (i : ℕ) → i < s .inputs → getD row i false ≡ getD (getD run (n + 1) []) i false) where
+          (row : List Bool) (put : row ≡ sets (getD run (n + 1) []) (s .inputs) (next-in p (row-in table′ n))) where
         there : n + 1 < positions-limit
         unfolding bound-limit positions-limit
         there = omega (arith, proper .bound-within)
+
+        long : length row ≡ length (getD run (n + 1) [])
+        long = ap length put ∙ simp length-sets
+
+        fits : s .inputs + s .latches ≤ length (getD run (n + 1) [])
+        unfolding inputs-limit latches-limit given-limit
+        fits = omega (arith, to .held .bits-there (n + 1) there, proper)
+
+        begins : take (s .inputs + s .latches) row ≡ take (s .inputs) (getD run (n + 1) []) ++ next-in p (row-in table′ n)
+        begins =
+            ap (take (s .inputs + s .latches)) put
+            ∙ sets-there (getD run (n + 1) []) (s .inputs) _ (length-next-in p (row-in table′ n) ∙ z .latches-are) fits
+
+        inputs : (i : ℕ) → i < s .inputs → getD row i false ≡ getD (getD run (n + 1) []) i false
+        inputs = put-after (s .inputs) (s .latches) (getD run (n + 1) []) row _ (omega (arith, fits)) begins
+
+        latches : (i : ℕ) → i < s .latches → getD row (s .inputs + i) false ≡ literal-value (row-in table′ n) (latch p i .next)
+        latches i q =
+            put-at (s .inputs) (s .latches) (getD run (n + 1) []) row _ (omega (arith, fits)) begins i q
+            ∙ next-by-row p (row-in table′ n) i (omega arith)
 
         input-still : (t i : ℕ) → i < p .inputs → Dec (t ≡ n + 1) → bit (set run (n + 1) row) t i ≡ bit run t i
         input-still t i q (yes e) = rw e (bit-set (to .held) (n + 1) row long there i ∙ inputs i (omega arith))

@@ -1,23 +1,23 @@
 -- What the judge says of a run whose tables are filled: the loop by the last row, and the formula's value over the table. Assumes nothing.
 use mathlib.Core.Path.{_≡_, refl, sym, _∙_, ap, ap₂}
 use mathlib.Core.Bool.{Bool, false, Bool·beq, _&&_}
-use mathlib.Core.List.{List, _∷_}
+use mathlib.Core.List.{List, [], _∷_}
 use Prim.Native.Nat.{ℕ, zero, suc, _+_, _-_, _<_, _≤_}
 use native.Mathlib.Omega.{arith}
-use lib.ListN.{getD}
-use Rattle.clauses.specs.Lists.{numbers, all-of}
-use Rattle.meaning.specs.Problem.{Problem, latch}
-use Rattle.meaning.specs.Runs.{literal-value, next-values}
+use lib.ListN.{length, getD}
+use Rattle.answers.specs.Lists.{numbers, all-of}
+use Rattle.meaning.specs.Problem.{Problem}
+use Rattle.meaning.specs.Runs.{next-values}
 use Rattle.meaning.specs.Witnesses.{shape-of, position}
 use Rattle.meaning.specs.Calls.{accepted}
 use Rattle.problem.specs.declared.Outline.{Outline}
 use Rattle.problem.specs.Promise.{problem-in, ProperIn}
 use Rattle.problem.proofs.Outlines.{shows}
-use Rattle.witness.specs.Tables.{row-in}
-use Rattle.witness.specs.Values.{value-in}
-use Rattle.witness.proofs.RowLaws.{next-value-in}
-use Rattle.witness.proofs.ShownRun.{shape-later}
-use Rattle.witness.proofs.ValueShown.{value-shown}
+use Rattle.values.specs.Tables.{row-in}
+use Rattle.values.specs.Values.{closed-at, value-in}
+use Rattle.values.proofs.RowLaws.{next-value-in}
+use Rattle.values.proofs.Fits.{shape-later}
+use Rattle.values.proofs.ValueShown.{value-shown}
 use Rattle.finder.specs.Runs.{Shown, run-bytes, bit}
 use Rattle.finder.proofs.Accepted.{accepted-is, closing}
 
@@ -33,13 +33,13 @@ module _ {s : Outline} {ws : List ℕ} {m : ℕ} {run : List (List Bool)} {table
 
   -- The loop of a first byte l + 1 is closed where the next values by the last row are the latches at l.
   pub closing-shown : (first : ℕ) → 0 < first → first ≤ s .bound + 1 → {row : List Bool} → row ≡ row-in table (s .bound) → {r : Bool}
-      → r ≡ all-of (λ i. Bool·beq (literal-value row (latch (problem-in s ws) i .next)) (bit run (first - 1) (s .inputs + i))) (numbers 0 (s .latches))
+      → r ≡ all-of (closed-at (problem-in s ws) row (getD run (first - 1) []) (s .inputs)) (numbers 0 (length (problem-in s ws .latches)))
       → r ≡ closing (problem-in s ws) (0 ∷ run-bytes (problem-in s ws) m) (shape-of first)
   closing-shown first some h is e =
       let z = shows s ws in
       e
-      ∙ rw (shape-later first (λ e. omega arith), z .latches-are, is)
-      (same-tests _ _ 0 (s .latches) (λ i q.
+      ∙ rw (shape-later first (λ e. omega arith), is)
+      (same-tests _ _ 0 (length (p .latches)) (λ i q.
       ap₂ Bool·beq
       (next-value-in (shown .values-right) (good .proper) {t = s .bound} (omega arith) i (omega arith)
       ∙ ap (λ (k : ℕ). getD (next-values p (position p (0 ∷ run-bytes p m) k)) i false) (sym (z .bound-is)))

@@ -5,12 +5,12 @@ use mathlib.Core.Path.{_≡_}
 use Prim.Native.Nat.{ℕ, _≤_}
 use lib.Dec.{eqb}
 use lib.ListN.{length}
-use Rattle.clauses.specs.Answers.{Answer, first-failing, granted}
-use Rattle.meaning.specs.Limits.{search-limit}
-use Rattle.meaning.specs.Answers.{too-much-open, witness-room-too-small, none-exists}
+use Rattle.answers.specs.Answers.{Answer, first-failing, granted}
+use Rattle.answers.specs.Limits.{search-limit}
+use Rattle.finder.specs.Calls.{too-much-open, witness-room-too-small, none-exists, open-bytes, finding-checks, first-found, with-first, find-witness, room-after-finding}
 use Rattle.meaning.specs.Problem as problems
-use Rattle.meaning.specs.Witnesses.{witness-length, open-bytes}
-use Rattle.meaning.specs.Calls.{witnesses, finding-checks, first-found, with-first, find-witness, room-after-finding}
+use Rattle.meaning.specs.Witnesses.{witness-length}
+use Rattle.meaning.specs.Calls.{witnesses}
 use Rattle.problem.specs.Promise.{refusal-answer}
 use Rattle.finder.specs.declared.Finding.{Finding}
 use Rattle.finder.specs.declared.Finding.the-variants.{Found, Problem, TooMuchOpen, RoomTooSmall, NoneExists}

@@ -5,11 +5,11 @@ use mathlib.Core.Path.{_≡_}
 use Prim.Native.Nat.{ℕ, zero, suc, _+_, _*_, _/_, _%_, _^_, _<_, _≤_}
 use lib.Dec.{eqb}
 use lib.ListN.{length, getD, replicate}
-use Rattle.meaning.specs.Limits.{inputs-limit, latches-limit}
+use Rattle.answers.specs.Limits.{inputs-limit, latches-limit}
 use Rattle.meaning.specs.Problem.{Problem, Latch}
 use Rattle.meaning.specs.Runs.{meets-constraints}
 use Rattle.meaning.specs.Witnesses.{byte, position}
-use Rattle.witness.specs.Tables.{RowsRight, positions-limit}
+use Rattle.values.specs.Tables.{RowsRight, positions-limit}
 
 -- ════════ The bytes of a run ════════
 

@@ -4,12 +4,12 @@ use problem::read::FREE;
 use problem::read::latch_reset;
 ghost use mathlib.Core.Path.{_≡_};
 ghost use Prim.Native.Nat.{_*_, _+_, _^_, _≤_};
-ghost use Rattle.meaning.specs.Limits.{inputs-limit, bound-limit, search-limit};
-ghost use Rattle.meaning.specs.Witnesses.{open-bytes};
+ghost use Rattle.answers.specs.Limits.{inputs-limit, bound-limit, search-limit};
+ghost use Rattle.finder.specs.Calls.{open-bytes};
 ghost use Rattle.problem.specs.Promise.{problem-in, ProperIn};
 
 // I(k+1).
-pub(crate) fn input_bytes(s: Outline) -> usize
+fn input_bytes(s: Outline) -> usize
     requires { ⌜ (s .inputs ≤ inputs-limit) × (s .bound ≤ bound-limit) ⌝ }
     ensures { λ r. ⌜ r ≡ s .inputs * (s .bound + 1) ⌝ }
 {

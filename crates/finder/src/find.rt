@@ -1,25 +1,23 @@
 // The finder: the problem's checks, then 17 and 18, then the search.
 use crate::Finding;
-use crate::bits::input_bytes;
 use crate::bits::open_bytes;
 use crate::bits::runs;
 use crate::room::write;
 use crate::search::search;
+use answers::limits::SEARCH_LIMIT;
 use problem::Checked;
 use problem::Outline;
 use problem::check::check;
-use witness::rows::LATCHES_AT;
+use values::bytes::witness_length;
 ghost use mathlib.Core.Path.{_≡_};
 ghost use Prim.Native.Nat.{_≤_};
 ghost use lib.ListN.{length};
-ghost use Rattle.meaning.specs.Limits.{search-limit};
-ghost use Rattle.meaning.specs.Witnesses.{witness-length, open-bytes};
-ghost use Rattle.meaning.specs.Calls.{witnesses, first-found, with-first};
+ghost use Rattle.answers.specs.Limits.{search-limit};
+ghost use Rattle.meaning.specs.Witnesses.{witness-length};
+ghost use Rattle.finder.specs.Calls.{open-bytes, first-found, with-first};
+ghost use Rattle.meaning.specs.Calls.{witnesses};
 ghost use Rattle.problem.specs.Promise.{problem-in, ProperIn};
 ghost use Rattle.finder.specs.Promise.{FoundIn, FoundAs, answer-of};
-
-// "If free resets plus I(k+1) are at most 16"
-const SEARCH_LIMIT: usize = 16;
 
 // The search, where there is room: nothing is written before it ends.
 fn found(words: &[u32], s: Outline, bits: usize, needed: usize, room: &mut [u8]) -> Finding
@@ -43,7 +41,7 @@ fn find_good(words: &[u32], s: Outline, room: &mut [u8]) -> Finding
     if SEARCH_LIMIT < bits {
         return Finding::TooMuchOpen(bits);
     }
-    let needed = LATCHES_AT + (s.latches as usize) + input_bytes(s);
+    let needed = witness_length(s);
     if room.len() < needed {
         return Finding::RoomTooSmall(needed);
     }

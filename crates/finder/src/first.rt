@@ -1,40 +1,19 @@
 // The first bytes that make a run a witness.
 use crate::run::GIVEN;
 use problem::Outline;
-use problem::read::latch_next;
-use witness::nodes::formula_value;
-use witness::rows::POSITIONS;
-use witness::rows::ROW_WIDTH;
-use witness::rows::literal;
-ghost use mathlib.Core.Bool.{false, Bool·beq};
+use values::latches::first_open;
+use values::nodes::formula_value;
+use values::rows::POSITIONS;
+use values::rows::ROW_WIDTH;
 ghost use mathlib.Core.List.{_∷_};
 ghost use mathlib.Core.Path.{_≡_};
 ghost use Prim.Native.Nat.{ℕ, _+_, _≤_};
-ghost use lib.ListN.{length, getD};
-ghost use Rattle.clauses.specs.Lists.{numbers, all-of};
-ghost use Rattle.meaning.specs.Problem.{latch};
-ghost use Rattle.meaning.specs.Runs.{literal-value};
+ghost use lib.ListN.{length};
 ghost use Rattle.meaning.specs.Calls.{accepted};
 ghost use Rattle.problem.specs.Promise.{problem-in, ProperIn};
-ghost use Rattle.witness.specs.Tables.{rows-room};
-ghost use Rattle.finder.specs.Runs.{Held, Shown, run-bytes, given-limit};
+ghost use Rattle.values.specs.Tables.{rows-room};
+ghost use Rattle.finder.specs.Runs.{Held, Shown, run-bytes};
 ghost use Rattle.finder.specs.Search.{Lowest};
-
-// Whether the next values of a row are the latches of a position.
-fn closes(words: &[u32], s: Outline, last: &[bool], there: &[bool]) -> bool
-    requires { ⌜ ProperIn s (now words) × (length (now there) ≡ given-limit) ⌝ }
-    ensures { λ r. ⌜ r ≡ all-of (λ i. Bool·beq (literal-value (now (last .entry)) (latch (problem-in s (now (words .entry))) i .next)) (getD (now (there .entry)) (s .inputs + i) false)) (numbers 0 (s .latches)) ⌝ }
-{
-    let mut i: u32 = 0;
-    while i < s.latches {
-        let at = (s.inputs as usize) + (i as usize);
-        if literal(last, latch_next(words, s, i)) != there[at] {
-            return false;
-        }
-        i += 1;
-    }
-    true
-}
 
 // Whether the run is a witness with this first byte, "0 for a prefix or l + 1"; a loop that does not close costs no node.
 fn is_witness(
@@ -51,7 +30,8 @@ fn is_witness(
         let from = (s.bound as usize) * ROW_WIDTH;
         let to = from + ROW_WIDTH;
         let l = first as usize - 1;
-        if closes(words, s, &table[from..to], &run[l]) {
+        let open = first_open(words, s, &table[from..to], &run[l], s.inputs as usize);
+        if open == s.latches {
             return formula_value(words, s, first as usize, table);
         }
         return false;

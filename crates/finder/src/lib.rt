@@ -6,9 +6,9 @@ mod bits;
 pub mod find;
 mod first;
 mod room;
+mod rows;
 mod run;
 mod search;
-mod values;
 
 // The answers to a search; `answer` gives the number and the place of each.
 pub enum Finding {

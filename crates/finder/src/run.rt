@@ -1,16 +1,16 @@
 // A candidate run by value: an array of arrays, a row of input and latch bits for each position. Its open bits are the digits of its number.
+use answers::limits::INPUTS_LIMIT;
+use answers::limits::LATCHES_LIMIT;
 use problem::Outline;
-use problem::limits::INPUTS_LIMIT;
-use problem::limits::LATCHES_LIMIT;
 use problem::read::FREE;
 use problem::read::latch_reset;
-use witness::rows::POSITIONS;
+use values::rows::POSITIONS;
 ghost use mathlib.Core.Bool.{false};
 ghost use mathlib.Core.Path.{_≡_};
 ghost use Prim.Native.Nat.{ℕ, _+_, _-_, _*_, _/_, _^_, _<_, _≤_};
 ghost use lib.Dec.{eqb};
 ghost use lib.ListN.{length, getD};
-ghost use Rattle.meaning.specs.Limits.{inputs-limit, bound-limit};
+ghost use Rattle.answers.specs.Limits.{inputs-limit, bound-limit};
 ghost use Rattle.meaning.specs.Witnesses.{byte};
 ghost use Rattle.problem.specs.Promise.{problem-in, ProperIn};
 ghost use Rattle.finder.specs.Runs.{Held, Filled, digit, resets, bytes-by, bit};

@@ -1,15 +1,15 @@
 // The search: the runs once, in rising order, each with the first bytes that are lower than the lowest found before.
 use crate::first::lowest;
+use crate::rows::run_values;
 use crate::run::GIVEN;
-use crate::values::run_values;
 use problem::Outline;
-use witness::rows::POSITIONS;
-use witness::rows::ROWS;
+use values::rows::POSITIONS;
+use values::rows::ROWS;
 ghost use mathlib.Core.Path.{_≡_};
 ghost use Prim.Native.Nat.{_+_, _≤_};
 ghost use lib.ListN.{length};
 ghost use Rattle.problem.specs.Promise.{problem-in, ProperIn};
-ghost use Rattle.witness.specs.Tables.{rows-room};
+ghost use Rattle.values.specs.Tables.{rows-room};
 ghost use Rattle.finder.specs.Runs.{Held, run-bytes};
 ghost use Rattle.finder.specs.Search.{Lowest, BestOf};
 

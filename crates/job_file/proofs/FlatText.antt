@@ -6,16 +6,16 @@ use Prim.Native.Nat.{ℕ}
 use lib.IntN.{ℤ, pos}
 use lib.ListN.{length}
 use borrow.Author.Tests.{not-true}
-use Rattle.clauses.specs.Lists.{each, all-of}
+use Rattle.answers.specs.Lists.{each, all-of}
 use Rattle.clauses.specs.Clauses.{Clause}
 use Rattle.clauses.specs.CnfWords.{is-0, ended-by-0, words-of}
-use Rattle.clauses.proofs.Satisfaction.{first-true, second-true}
+use Rattle.answers.proofs.Tests.{first-true, second-true}
 use Rattle.clauses.proofs.ReadBack.{not-0, NoZeros, within-no-zeros}
 use Rattle.text.specs.Numbers.{bytes-of, signed-decimal}
 use Rattle.meaning.specs.Problem.{Problem}
 use Rattle.meaning.specs.Proper.{Proper}
 use Rattle.meaning.specs.Cnf.{cnf, cnf-words, variables}
-use Rattle.meaning.specs.JobFile.{header-line, clause-line, cnf-text}
+use Rattle.job_file.specs.JobFile.{header-line, clause-line, cnf-text}
 use Rattle.meaning.proofs.Numbers.{each-append}
 use Rattle.meaning.proofs.Ranges.{literals-within}
 use Rattle.job_file.specs.Text.{word-text, words-text, flat-text}

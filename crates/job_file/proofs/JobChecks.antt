@@ -6,14 +6,13 @@ use Prim.Native.Nat.{ℕ, _-_, _%_, _≤_, _<_}
 use lib.Dec.{leb, ltb}
 use lib.ListN.{length}
 use borrow.Author.Tests.{leb-true, le-leb, lt-leb, eq-eqb, ne-eqb}
-use Rattle.clauses.specs.Lists.{all-of}
-use Rattle.clauses.specs.Answers.{Answer, first-failing, granted}
-use Rattle.meaning.specs.Limits.{job-limit}
-use Rattle.meaning.specs.Answers.{bad-job}
+use Rattle.answers.specs.Lists.{all-of}
+use Rattle.answers.specs.Answers.{Answer, first-failing, granted, bad-job}
+use Rattle.answers.specs.Limits.{job-limit}
 use Rattle.meaning.specs.Problem.{header-words}
-use Rattle.meaning.specs.JobFile.{job-header, job-version, job-length, job-checks}
-use Rattle.clauses.proofs.Satisfaction.{first-true, second-true}
-use Rattle.clauses.proofs.Answers.{refusing, all-pass-if-granted}
+use Rattle.job_file.specs.JobFile.{job-header, job-version, job-length, job-checks}
+use Rattle.answers.proofs.Tests.{first-true, second-true}
+use Rattle.answers.proofs.Answers.{refusing, all-pass-if-granted}
 
 abbrev pub checks-answer : List ℕ → Answer
 checks-answer bs = first-failing (job-checks bs) (granted 0)

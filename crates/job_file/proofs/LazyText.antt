@@ -2,26 +2,26 @@
 -- Assumes nothing.
 use mathlib.Core.Path.{_≡_, refl, sym, _∙_, ap}
 use mathlib.Core.List.{List, [], _∷_}
-use Prim.Native.Nat.{ℕ, _≤_}
+use Prim.Native.Nat.{ℕ, _^_, _≤_, _<_}
 use native.Mathlib.Omega.{arith}
-use lib.IntN.{ℤ}
-use lib.ListN.{length, getD, replicate, length-append}
-use Rattle.clauses.specs.Answers.{answer, first-failing, granted}
-use Rattle.clauses.proofs.Answers.{number-of, place-of}
+use lib.IntN.{ℤ, pos}
+use lib.ListN.{length, getD, drop, replicate, length-append, List·getD-append}
+use Rattle.answers.specs.Answers.{answer, first-failing, granted, bad-job}
+use Rattle.answers.proofs.Answers.{number-of, place-of}
+use Rattle.clauses.specs.Clauses.{minus}
 use Rattle.text.specs.Numbers.{decimal}
-use Rattle.meaning.specs.Limits.{inputs-limit, latches-limit, gates-limit, nodes-limit, bound-limit, constraints-limit, job-limit, program-room}
-use Rattle.meaning.specs.Answers.{bad-job}
+use Rattle.answers.specs.Limits.{inputs-limit, latches-limit, gates-limit, nodes-limit, bound-limit, constraints-limit, job-limit, program-room}
 use Rattle.meaning.specs.Problem.{header-words, problem-by, problem}
 use Rattle.meaning.specs.Cnf.{variables, cnf, cnf-words}
-use Rattle.meaning.specs.JobFile.{job-words, job-checks, header-line, cnf-text, refusal-line, job-answer, printed}
-use Rattle.meaning.specs.Cases.{T-file, T-text}
+use Rattle.job_file.specs.JobFile.{job-words, job-checks, header-line, cnf-text, refusal-line, job-answer, printed}
+use Rattle.job_file.specs.Cases.{T-file, T-text}
 use Rattle.job_file.specs.declared.job.Job.{Job}
 use Rattle.job_file.specs.declared.job.JobAnswer.{JobAnswer}
 use Rattle.job_file.specs.declared.job.JobAnswer.the-variants.{Good, Bad}
 use Rattle.job_file.specs.declared.texts.Printed.{Printed}
 use Rattle.job_file.specs.declared.texts.Printed.the-variants.{Bytes, Short}
 use Rattle.job_file.specs.Text.{words-text, flat-text}
-use Rattle.job_file.specs.Promise.{job-answered, JobRead, Prints}
+use Rattle.job_file.specs.Promise.{job-answered, words-room, JobRead, Prints}
 use Rattle.job_file.proofs.Prints.{written-whole, short-without-room}
 use Rattle.job_file.proofs.TextLengths.{length-header}
 
@@ -60,6 +60,22 @@ words-left-out-breaks j h r = go (j .answer) refl
     go Good e = h (rw e at (r .counted))
     go (Bad p) e = refuses-all-breaks j p e r
 
+-- Whatever the bytes: each word of a job that is read is its number.
+pub other-word-breaks : (bs : List ℕ) (j : Job) → j .answer ≡ Good → (i : ℕ) → i < length (job-words bs) → ¬ (getD (j .words) i 0 ≡ getD (job-words bs) i 0)
+    → ¬ (JobRead bs j)
+other-word-breaks bs j a i l h r =
+    let ws = job-words bs in
+    h (ap (λ ns. getD ns i 0) (rw a at (r .words)) ∙ List·getD-append ws (drop (length ws) (replicate words-room 0)) 0 i l)
+
+-- T's word 1, 00 00 00 01, is 1: the other way round it is 2^24. Its length, 00 00 00 28, so read would be refused.
+pub little-endian-breaks : (j : Job) → getD (j .words) 1 0 ≡ 2 ^ 24 → ¬ (JobRead T-file j)
+unfolding job-words
+little-endian-breaks j is r = go (j .answer) refl
+  where
+    go : (a : JobAnswer) → j .answer ≡ a → ⊥
+    go Good e = other-word-breaks T-file j e 1 (omega arith) (λ f. let z : _≡_ {A = ℕ} 16_777_216 1 = sym is ∙ f in omega arith) r
+    go (Bad p) e = refuses-all-breaks j p e r
+
 -- ════════ A text ════════
 
 pub nothing-written-breaks : (v c : ℕ) (ws : List ℤ) (out left : List ℕ) → ¬ (Prints (flat-text v c ws) out (Bytes 0) left)
@@ -79,6 +95,16 @@ always-T-breaks out left p = omega (arith, (written-whole p) .0)
 pub other-number-breaks : (r : Printed) → ¬ (Prints (refusal-line (answer 15 0)) (replicate 16 0) r (refusal-line (answer 14 0)))
 unfolding refusal-line decimal
 other-number-breaks r p = let z : _≡_ {A = ℕ} 52 53 = ap (λ (bs : List ℕ). getD bs 9 0) (p .left) in omega arith
+
+-- `p cnf 12 6` for 6 variables and 12 clauses: byte 6 is the variables' 6.
+pub header-turned-round-breaks : (r : Printed) → ¬ (Prints (flat-text 6 12 []) (replicate 11 0) r (flat-text 12 6 []))
+unfolding flat-text decimal
+header-turned-round-breaks r p = let z : _≡_ {A = ℕ} 49 54 = ap (λ (bs : List ℕ). getD bs 6 0) (p .left) in omega arith
+
+-- The clause (-2) after `p cnf 2 1`: byte 10 is its sign, and here anything else, as `02`, or `2`.
+pub minus-left-out-breaks : (r : Printed) (left : List ℕ) → ¬ (getD left 10 0 ≡ 45) → ¬ (Prints (flat-text 2 1 (minus 2 ∷ pos 0 ∷ [])) (replicate 15 0) r left)
+unfolding flat-text decimal
+minus-left-out-breaks r left h p = h (ap (λ (bs : List ℕ). getD bs 10 0) (p .left))
 
 -- ════════ A job printed ════════
 

@@ -1,4 +1,5 @@
 -- The plain mathematics of the crate's proofs.
+pub mod JobOrder
 pub mod JobChecks
 pub mod ReadWords
 pub mod WordText

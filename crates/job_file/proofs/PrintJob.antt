@@ -8,15 +8,15 @@ use borrow.Author.Tests.{eq-eqb, ne-eqb}
 use lib.Dec.{eqb}
 use lib.IntN.{ℤ, pos}
 use lib.ListN.{length, take, drop, replicate, length-append, length-replicate}
-use Rattle.clauses.specs.Answers.{Answer, first-failing, granted}
-use Rattle.clauses.proofs.Answers.{first-failing-passed, all-pass-if-granted, refused-anyway, number-of}
-use Rattle.meaning.specs.Limits.{program-room}
+use Rattle.answers.specs.Answers.{Answer, first-failing, granted}
+use Rattle.answers.proofs.Answers.{first-failing-passed, all-pass-if-granted, refused-anyway, number-of}
+use Rattle.answers.specs.Limits.{program-room}
 use Rattle.meaning.specs.Problem.{problem}
 use Rattle.meaning.specs.Cnf.{cnf, variables}
 use Rattle.meaning.specs.Calls.{write-cnf}
-use Rattle.meaning.specs.JobFile.{job-version, job-words, job-checks, job-answer, job-problem, cnf-text, refusal-line, printed}
+use Rattle.job_file.specs.JobFile.{job-version, job-words, job-checks, job-answer, job-problem, cnf-text, refusal-line, printed}
 use Rattle.meaning.proofs.Check.{proper-if-well-formed}
-use Rattle.meaning.proofs.Calls.{job-answer-is}
+use Rattle.job_file.proofs.JobOrder.{job-answer-is}
 use Rattle.problem.proofs.Unique.{refusal-not-yes}
 use Rattle.counts.specs.declared.Counts.{Counts}
 use Rattle.encoder.specs.declared.Encoded.{Encoded}

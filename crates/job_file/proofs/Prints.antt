@@ -8,11 +8,11 @@ use borrow.Author.Tests.{leb-false, le-leb, lt-leb}
 use lib.Dec.{leb}
 use lib.ListN.{length, take, drop, length-append}
 use lib.Seq.{take-at}
-use Rattle.clauses.specs.Lists.{written}
-use Rattle.clauses.specs.Answers.{Answer, answer}
+use Rattle.answers.specs.Lists.{written}
+use Rattle.answers.specs.Answers.{Answer, answer}
 use Rattle.text.specs.Promise.{largest-size}
 use Rattle.text.proofs.Buffers.{Put}
-use Rattle.meaning.specs.JobFile.{refusal-line}
+use Rattle.job_file.specs.JobFile.{refusal-line}
 use Rattle.job_file.specs.Promise.{size, Prints}
 use Rattle.job_file.specs.declared.texts.Printed.{Printed}
 use Rattle.job_file.specs.declared.texts.Printed.the-variants.{Bytes, Short}

@@ -5,9 +5,9 @@ use Prim.Native.Nat.{ℕ, _+_, _*_, _<_}
 use native.Mathlib.Nat.{zero-add}
 use native.Mathlib.Numerals.{add-one}
 use lib.ListN.{length, set}
-use Rattle.clauses.specs.Lists.{numbers, written}
+use Rattle.answers.specs.Lists.{numbers, written}
 use Rattle.text.proofs.Buffers.{written-more}
-use Rattle.meaning.specs.JobFile.{number-at, job-header}
+use Rattle.job_file.specs.JobFile.{number-at, job-header}
 use Rattle.meaning.proofs.Numbers.{numbers-suc, length-map-numbers}
 use Rattle.job_file.specs.Promise.{words-from}
 

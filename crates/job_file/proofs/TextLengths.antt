@@ -7,10 +7,10 @@ use lib.IntN.{ℤ, pos, negsuc}
 use lib.ListN.{length, getD, length-append}
 use mir.Syntax.{w32}
 use mir.Val.{SFits}
-use Rattle.clauses.specs.Answers.{answer}
+use Rattle.answers.specs.Answers.{answer}
 use Rattle.text.specs.Numbers.{bytes-of, decimal}
 use Rattle.text.proofs.Decimals.{length-within}
-use Rattle.meaning.specs.JobFile.{header-line, refusal-line}
+use Rattle.job_file.specs.JobFile.{header-line, refusal-line}
 use Rattle.job_file.specs.Text.{word-text, words-text, flat-text}
 
 pub length-header : (v c : ℕ) → length (header-line v c) ≡ length (decimal v) + length (decimal c) + 8

@@ -11,23 +11,23 @@ use lib.ListN.{length, take, length-append, length-take}
 use lib.Seq.{take-all}
 use mir.Syntax.{w32}
 use mir.Val.{SFits}
-use Rattle.clauses.specs.Lists.{all-of}
-use Rattle.clauses.specs.Limits.{variables-limit}
-use Rattle.clauses.specs.Answers.{Answer, Check, first-failing}
+use Rattle.answers.specs.Lists.{all-of}
+use Rattle.answers.specs.Limits.{variables-limit, constraints-limit, job-limit, program-room}
+use Rattle.answers.specs.Answers.{Answer, Check, first-failing}
 use Rattle.clauses.specs.Clauses.{Clause, variable-of, literal-within, Within}
 use Rattle.clauses.specs.CnfWords.{ended-by-0, words-of}
-use Rattle.clauses.proofs.Satisfaction.{both-true, first-true, second-true, all-of-append, all-of-at, all-of-weaker}
-use Rattle.clauses.proofs.Answers.{number-of, passing, first-failing-passed, all-pass-if-yes}
+use Rattle.answers.proofs.Tests.{both-true, first-true, second-true, all-of-append, all-of-at, all-of-weaker}
+use Rattle.answers.proofs.Answers.{number-of, passing, first-failing-passed, all-pass-if-yes}
 use Rattle.text.proofs.Decimals.{length-within}
-use Rattle.meaning.specs.Limits.{constraints-limit, job-limit, program-room}
-use Rattle.meaning.specs.Problem.{Problem, problem, Outline, outline, latch-place, gate-place, constraint-place, node-place, words-in-all}
+use Rattle.meaning.specs.Problem.{Problem, problem, Outline, outline, latch-place, gate-place, constraint-place, node-place, words-in-all, children}
 use Rattle.meaning.specs.Check.{header-checks, limit-checks, length-checks, latch-checks, gate-checks, constraint-checks, node-checks, each-below}
 use Rattle.meaning.specs.Proper.{Proper}
 use Rattle.meaning.specs.Cnf.{cnf, cnf-words, variables}
 use Rattle.meaning.specs.Calls.{check-parts, WellFormed, room-checks, write-cnf}
-use Rattle.meaning.specs.JobFile.{job-header, job-version, job-words, job-checks, job-answer, job-problem, cnf-text, refusal-line, printed}
+use Rattle.job_file.specs.JobFile.{job-header, job-version, job-words, job-checks, job-answer, job-problem, cnf-text, refusal-line, printed}
 use Rattle.meaning.proofs.Check.{passes-at, problem-checked, well-formed-if-all-pass, proper-if-well-formed}
-use Rattle.meaning.proofs.Calls.{write-cnf-is, job-answer-is}
+use Rattle.meaning.proofs.Calls.{write-cnf-is}
+use Rattle.job_file.proofs.JobOrder.{job-answer-is}
 use Rattle.meaning.proofs.ItemByItem.{_and_, all-of-joined}
 use Rattle.meaning.proofs.Numbers.{all-of-each-below}
 use Rattle.meaning.proofs.Ranges.{literals-within, variables-fit}
@@ -151,7 +151,7 @@ module _ (version : ℕ) (ws : List ℕ) (few : length ws ≤ job-limit) where
     unfolding job-limit
     constraint-low c l = both-true (lt-ltb (constraint-place o c) _ (omega arith)) refl
 
-    node-low : (n : ℕ) → n < o .nodes → all-of low (node-checks o ws n) ≡ true
+    node-low : (n : ℕ) → n < o .written-nodes → all-of low (node-checks children o ws n) ≡ true
     unfolding job-limit
     node-low n l =
         both-true (lt-ltb (node-place o n) _ (omega arith))
@@ -168,7 +168,7 @@ module _ (version : ℕ) (ws : List ℕ) (few : length ws ≤ job-limit) where
       first-failing-low (each-below (o .latches) (latch-checks o ws)) _ (all-of-each-below low _ _ (latch-low all)) λ latches.
       first-failing-low (each-below (o .gates) (gate-checks o ws)) _ (all-of-each-below low _ _ (gate-low all)) λ gates.
       first-failing-low (each-below (o .constraints) (constraint-checks o ws)) _ (all-of-each-below low _ _ (constraint-low all)) λ constraints.
-      first-failing-low (each-below (o .nodes) (node-checks o ws)) _ (all-of-each-below low _ _ (node-low all)) λ nodes.
+      first-failing-low (each-below (o .written-nodes) (node-checks children o ws)) _ (all-of-each-below low _ _ (node-low all)) λ nodes.
       h
       (well-formed-if-all-pass version ws
       (all-of-joined passing (check-parts version ws) .1 (header and limits and lengths and latches and gates and constraints and nodes and tt)))

@@ -5,7 +5,7 @@ use Prim.Native.Nat.{ℕ}
 use native.Mathlib.Omega.{arith}
 use lib.ListN.{take}
 use lib.Seq.{take-append-seam}
-use Rattle.clauses.proofs.Answers.{number-of, place-of}
+use Rattle.answers.proofs.Answers.{number-of, place-of}
 use Rattle.job_file.specs.declared.job.Job.{Job}
 use Rattle.job_file.specs.declared.job.JobAnswer.{JobAnswer}
 use Rattle.job_file.specs.declared.job.JobAnswer.the-variants.{Good, Bad}

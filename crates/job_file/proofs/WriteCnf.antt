@@ -9,10 +9,9 @@ use lib.Dec.{leb}
 use lib.IntN.{ℤ}
 use lib.ListN.{length, take, drop, length-append}
 use lib.Seq.{take-at}
-use Rattle.clauses.specs.Lists.{written}
-use Rattle.clauses.specs.Answers.{granted}
-use Rattle.clauses.proofs.Answers.{number-of, place-of}
-use Rattle.meaning.specs.Answers.{room-too-small}
+use Rattle.answers.specs.Lists.{written}
+use Rattle.answers.specs.Answers.{granted, room-too-small}
+use Rattle.answers.proofs.Answers.{number-of, place-of}
 use Rattle.meaning.specs.Problem.{problem}
 use Rattle.meaning.specs.Cnf.{cnf-words}
 use Rattle.meaning.specs.Calls.{WellFormed, write-cnf, room-after-writing}

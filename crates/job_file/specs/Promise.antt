@@ -5,12 +5,11 @@ use mathlib.Core.List.{List, [], map}
 use Prim.Native.Nat.{ℕ, _+_, _*_, _/_, min}
 use lib.Dec.{leb}
 use lib.ListN.{length, replicate}
-use Rattle.clauses.specs.Lists.{numbers, written}
-use Rattle.clauses.specs.Answers.{Answer, first-failing, granted}
+use Rattle.answers.specs.Lists.{numbers, written}
+use Rattle.answers.specs.Answers.{Answer, first-failing, granted, bad-job}
 use Rattle.text.specs.Promise.{largest-size}
-use Rattle.meaning.specs.Limits.{job-limit}
-use Rattle.meaning.specs.Answers.{bad-job}
-use Rattle.meaning.specs.JobFile.{job-header, job-version, job-words, job-checks, number-at}
+use Rattle.answers.specs.Limits.{job-limit}
+use Rattle.job_file.specs.JobFile.{job-header, job-version, job-words, job-checks, number-at}
 use Rattle.job_file.specs.declared.job.Job.{Job}
 use Rattle.job_file.specs.declared.job.JobAnswer.{JobAnswer}
 use Rattle.job_file.specs.declared.job.JobAnswer.the-variants.{Good, Bad}

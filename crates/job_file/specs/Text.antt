@@ -4,11 +4,11 @@ use mathlib.Core.List.{List, _++_}
 use Prim.Native.Nat.{ℕ, _+_, _*_}
 use lib.IntN.{ℤ}
 use lib.ListN.{take}
-use Rattle.clauses.specs.Lists.{each}
+use Rattle.answers.specs.Lists.{each}
 use Rattle.clauses.specs.CnfWords.{is-0}
 use Rattle.text.specs.Numbers.{bytes-of, decimal, signed-decimal}
-use Rattle.meaning.specs.Limits.{program-room}
-use Rattle.meaning.specs.JobFile.{header-line, refusal-line}
+use Rattle.answers.specs.Limits.{program-room}
+use Rattle.job_file.specs.JobFile.{header-line, refusal-line}
 use Rattle.encoder.specs.declared.Encoded.{Encoded}
 use Rattle.encoder.specs.declared.Encoded.the-variants.{Written, Problem, RoomTooSmall}
 use Rattle.encoder.specs.Promise.{answer-of}

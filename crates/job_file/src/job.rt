@@ -1,15 +1,13 @@
 // A job file's bytes, checked and read as words.
+use answers::limits::JOB_LIMIT;
 use problem::header::known_version;
 ghost use mathlib.Core.Path.{_≡_};
 ghost use Prim.Native.Nat.{_+_, _*_, _≤_};
 ghost use lib.ListN.{length};
-ghost use Rattle.clauses.specs.Lists.{written};
-ghost use Rattle.clauses.specs.Answers.{first-failing, granted};
-ghost use Rattle.meaning.specs.JobFile.{job-header, job-checks, number-at};
+ghost use Rattle.answers.specs.Lists.{written};
+ghost use Rattle.answers.specs.Answers.{first-failing, granted};
+ghost use Rattle.job_file.specs.JobFile.{job-header, job-checks, number-at};
 ghost use Rattle.job_file.specs.Promise.{job-answered, words-from, JobRead};
-
-// Document 01's limit on a job file's bytes.
-pub const JOB_LIMIT: usize = 16384;
 
 // The version byte and the four bytes of the length.
 const JOB_HEADER: usize = 5;

@@ -6,6 +6,7 @@ use crate::job::read_job;
 use crate::texts::Printed;
 use crate::texts::cnf_text;
 use crate::texts::refusal_text;
+use answers::limits::PROGRAM_ROOM;
 use encoder::Encoded;
 use encoder::answer::number;
 use encoder::answer::place;
@@ -13,13 +14,10 @@ use encoder::encode::write_cnf;
 ghost use mathlib.Core.Path.{_≡_};
 ghost use Prim.Native.Nat.{_≤_};
 ghost use lib.ListN.{length};
-ghost use Rattle.meaning.specs.JobFile.{printed};
+ghost use Rattle.job_file.specs.JobFile.{printed};
 ghost use Rattle.encoder.specs.Promise.{answer-of};
 ghost use Rattle.job_file.specs.Text.{encoded-text};
 ghost use Rattle.job_file.specs.Promise.{Prints};
-
-// Document 01's CNF words of the program.
-pub const PROGRAM_ROOM: usize = 8192;
 
 // The text of the CNF that was written to the room, or the line of a refusal.
 fn print_encoded(r: Encoded, room: &[i32], out: &mut [u8]) -> Printed

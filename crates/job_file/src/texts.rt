@@ -1,6 +1,6 @@
 // The texts that the program prints.
 use crate::put::put_line;
-use refutation::literals::variable;
+use clauses::literals::variable;
 use text::put::digits;
 use text::put::put_bytes;
 use text::put::put_ended;
@@ -8,9 +8,9 @@ use text::put::sum;
 ghost use mathlib.Core.Path.{_≡_};
 ghost use Prim.Native.Nat.{_+_, _≤_};
 ghost use lib.ListN.{length};
-ghost use Rattle.clauses.specs.Answers.{answer};
+ghost use Rattle.answers.specs.Answers.{answer};
 ghost use Rattle.text.proofs.Buffers.{Put};
-ghost use Rattle.meaning.specs.JobFile.{header-line, refusal-line};
+ghost use Rattle.job_file.specs.JobFile.{header-line, refusal-line};
 ghost use Rattle.job_file.specs.Text.{word-text, words-text, flat-text};
 ghost use Rattle.job_file.specs.Promise.{size, Prints};
 

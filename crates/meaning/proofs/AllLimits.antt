@@ -10,11 +10,11 @@ use borrow.Author.Tests.{le-leb, lt-ltb}
 use lib.Dec.{ltb}
 use lib.ListN.{length, getD, replicate, length-replicate, getD-replicate, List·getD-append}
 use lib.Seq.{getD-drop}
-use Rattle.clauses.specs.Lists.{numbers, each, all-of, those, sum}
-use Rattle.clauses.proofs.Satisfaction.{both-true, all-of-member, those-few}
-use Rattle.clauses.proofs.Answers.{passing}
-use Rattle.meaning.specs.Limits.{inputs-limit, latches-limit, gates-limit, nodes-limit, bound-limit, constraints-limit}
-use Rattle.meaning.specs.Problem.{Problem, Latch, Node, atom, both, either, next, until, release, latch, node, Outline, header-words, outline, problem-by, problem, word, latch-place, gate-place, node-place}
+use Rattle.answers.specs.Lists.{numbers, each, all-of, those, sum}
+use Rattle.answers.proofs.Tests.{both-true, all-of-member, those-few}
+use Rattle.answers.proofs.Answers.{passing}
+use Rattle.answers.specs.Limits.{inputs-limit, latches-limit, gates-limit, nodes-limit, bound-limit, constraints-limit}
+use Rattle.meaning.specs.Problem.{Problem, Latch, Node, atom, both, either, next, until, release, latch, node, Outline, header-words, outline, problem-by, problem, word, latch-place, gate-place, node-place, children}
 use Rattle.meaning.specs.Check.{largest-literal, gate-limit, largest-reset, latch-checks, gate-checks, node-checks}
 use Rattle.meaning.specs.Proper.{NodeProper, Proper}
 use Rattle.meaning.specs.Cnf.{variables, cnf, cnf-words}
@@ -56,7 +56,7 @@ limits-gates j h =
     let right : word limit-words (at + 1) < gate-limit o j = omega (arith, limits-zeros (at + 1) (omega arith) (omega arith)) in
     both-true (le-leb _ _ left) (both-true (le-leb _ _ right) refl)
 
-limits-nodes : all-of passing (each (numbers 0 (o .nodes)) (node-checks o limit-words)) ≡ true
+limits-nodes : all-of passing (each (numbers 0 (o .written-nodes)) (node-checks children o limit-words)) ≡ true
 unfolding limit-words header-words
 limits-nodes = refl
 

@@ -4,13 +4,11 @@ use mathlib.Core.List.{List, [], _∷_, _++_}
 use Prim.Native.Nat.{ℕ}
 use lib.IntN.{ℤ}
 use lib.ListN.{length}
-use Rattle.clauses.specs.Answers.{first-failing, first-failing-part, granted}
+use Rattle.answers.specs.Answers.{first-failing, first-failing-part, granted}
 use Rattle.clauses.specs.Refutations.{steps-of, judge-steps, judge-clauses}
-use Rattle.meaning.specs.Limits.{program-room}
 use Rattle.meaning.specs.Problem.{problem}
 use Rattle.meaning.specs.Cnf.{cnf, cnf-words, variables}
-use Rattle.meaning.specs.Calls.{check-parts, witness-parts, judge-bytes, room-checks, write-cnf, judge-witness, witnesses, finding-checks, first-found, find-witness, preparing-parts, step-parts, judge-refutation}
-use Rattle.meaning.specs.JobFile.{job-version, job-words, job-checks, job-answer}
+use Rattle.meaning.specs.Calls.{check-parts, witness-parts, judge-bytes, room-checks, write-cnf, judge-witness, preparing-parts, step-parts, judge-refutation}
 use Rattle.meaning.proofs.Check.{problem-checked, checked-then}
 
 module _ (version : ℕ) (ws : List ℕ) where
@@ -23,12 +21,6 @@ module _ (version : ℕ) (ws : List ℕ) where
   pub judge-witness-is : (bs : List ℕ) → judge-witness version ws bs ≡ problem-checked version ws (judge-bytes (problem version ws) bs)
   unfolding judge-witness judge-bytes
   judge-witness-is bs = checked-then version ws (witness-parts (problem version ws) bs) (granted 0)
-
-  pub find-witness-is : (room : ℕ)
-      → find-witness version ws room
-      ≡ problem-checked version ws (first-failing (finding-checks (problem version ws) room) (first-found (witnesses (problem version ws))))
-  unfolding find-witness
-  find-witness-is room = checked-then version ws (finding-checks (problem version ws) room ∷ []) (first-found (witnesses (problem version ws)))
 
   module _ (refutation : List ℤ) (room by-numbers by-clauses : ℕ) where
     -- After 6 it is the judge of the CNF's clauses.
@@ -49,8 +41,3 @@ module _ (version : ℕ) (ws : List ℕ) where
         (judge-steps (cnf (problem version ws)) (steps-of refutation))
     unfolding judge-refutation judge-steps
     refutation-by-steps = refl
-
--- Of a job whose bytes are right, the answer is that of writing its CNF.
-pub job-answer-is : (bs : List ℕ) → job-answer bs ≡ first-failing (job-checks bs) (write-cnf (job-version bs) (job-words bs) program-room)
-unfolding job-answer write-cnf
-job-answer-is bs = refl

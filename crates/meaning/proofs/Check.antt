@@ -8,10 +8,10 @@ use native.Mathlib.Omega.{arith}
 use borrow.Author.Tests.{leb-true, le-leb, ltb-true, lt-ltb, eqb-true, eq-eqb, ne-eqb}
 use lib.Dec.{leb, eqb, lit<}
 use lib.ListN.{length, getD}
-use Rattle.clauses.specs.Lists.{all-of, joined}
-use Rattle.clauses.specs.Answers.{Answer, Check, check, first-failing, first-failing-part, granted}
-use Rattle.clauses.proofs.Satisfaction.{both-true, false-if-not-true, all-of-at, first-true, second-true}
-use Rattle.clauses.proofs.Answers.{passing, refusing, other-than, passed-by-number, first-failing-passed, first-failing-joined, parts-append, all-pass-if-yes, number-of}
+use Rattle.answers.specs.Lists.{all-of, joined}
+use Rattle.answers.specs.Answers.{Answer, Check, check, first-failing, first-failing-part, granted}
+use Rattle.answers.proofs.Tests.{both-true, false-if-not-true, all-of-at, first-true, second-true}
+use Rattle.answers.proofs.Answers.{passing, refusing, other-than, passed-by-number, first-failing-passed, first-failing-joined, parts-append, all-pass-if-yes, number-of}
 use Rattle.meaning.specs.Problem.{Problem, W, Outline, outline, word, constraint-place, node-place, children, node-of, problem-by, problem}
 use Rattle.meaning.specs.Check.{largest-literal, first-right, second-right, children-of, header-checks, limit-check, limit-checks, length-checks, latch-checks, gate-checks, constraint-checks, node-checks}
 use Rattle.meaning.specs.Proper.{LatchRight, GateRight, FirstRight, SecondRight, NodeRight, InLimits, RulesMet, NodeProper, Proper}
@@ -82,21 +82,22 @@ module _ (o : Outline) (ws : List ℕ) (i : ℕ) where
   constraint-if-passes : all-of passing (constraint-checks o ws i) ≡ true → word ws (constraint-place o i) ≤ largest-literal o
   constraint-if-passes e = leb-true _ _ (passes-at (constraint-checks o ws i) 0 e (lit< tt))
 
-  node-passes : NodeRight o ws i → all-of passing (node-checks o ws i) ≡ true
-  node-passes r =
-      let op = word ws (node-place o i) in
-      both-true (le-leb _ _ (r .op-known))
-      (both-true (first-passes o i (children-of op) (word ws (node-place o i + 1)) (r .first-word))
-      (both-true (second-passes i (children-of op) (word ws (node-place o i + 2)) (r .second-word)) refl))
+  module _ (table : List ℕ) where
+    node-passes : NodeRight table o ws i → all-of passing (node-checks table o ws i) ≡ true
+    node-passes r =
+        let op = word ws (node-place o i) in
+        both-true (le-leb _ _ (r .op-known))
+        (both-true (first-passes o i (children-of table op) (word ws (node-place o i + 1)) (r .first-word))
+        (both-true (second-passes i (children-of table op) (word ws (node-place o i + 2)) (r .second-word)) refl))
 
-  node-if-passes : all-of passing (node-checks o ws i) ≡ true → NodeRight o ws i
-  node-if-passes e =
-      let op = word ws (node-place o i) in
-      record {
-        op-known = leb-true _ _ (passes-at (node-checks o ws i) 0 e (lit< tt));
-        first-word = first-if-passes o i (children-of op) (word ws (node-place o i + 1)) (passes-at (node-checks o ws i) 1 e (lit< tt));
-        second-word = second-if-passes i (children-of op) (word ws (node-place o i + 2)) (passes-at (node-checks o ws i) 2 e (lit< tt));
-      }
+    node-if-passes : all-of passing (node-checks table o ws i) ≡ true → NodeRight table o ws i
+    node-if-passes e =
+        let op = word ws (node-place o i) in
+        record {
+          op-known = leb-true _ _ (passes-at (node-checks table o ws i) 0 e (lit< tt));
+          first-word = first-if-passes o i (children-of table op) (word ws (node-place o i + 1)) (passes-at (node-checks table o ws i) 1 e (lit< tt));
+          second-word = second-if-passes i (children-of table op) (word ws (node-place o i + 2)) (passes-at (node-checks table o ws i) 2 e (lit< tt));
+        }
 
 -- ════════ All checks ════════
 
@@ -143,7 +144,7 @@ module _ (version : ℕ) (ws : List ℕ) where
       and all-of-each-below (other-than k) (latch-checks o ws) (o .latches) (λ i l. both-true four (both-true (is 3 (omega arith) (omega arith)) refl))
       and all-of-each-below (other-than k) (gate-checks o ws) (o .gates) (λ j l. both-true four (both-true four refl))
       and all-of-each-below (other-than k) (constraint-checks o ws) (o .constraints) (λ c l. both-true four refl)
-      and all-of-each-below (other-than k) (node-checks o ws) (o .nodes) (λ n l. both-true five (both-true five (both-true five refl)))
+      and all-of-each-below (other-than k) (node-checks children o ws) (o .written-nodes) (λ n l. both-true five (both-true five (both-true five refl)))
       and tt)
     where
       is : (n : ℕ) → 1 ≤ n → n ≤ 15 → not (eqb n k) ≡ true
@@ -196,7 +197,7 @@ module _ (version : ℕ) (ws : List ℕ) where
       and all-of-each-below passing (latch-checks o ws) (o .latches) (λ i l. latch-passes o ws i (w .latches-right i l))
       and all-of-each-below passing (gate-checks o ws) (o .gates) (λ j l. gate-passes o ws j (w .gates-right j l))
       and all-of-each-below passing (constraint-checks o ws) (o .constraints) (λ c l. constraint-passes o ws c (w .constraints-right c l))
-      and all-of-each-below passing (node-checks o ws) (o .nodes) (λ n l. node-passes o ws n (w .nodes-right n l))
+      and all-of-each-below passing (node-checks children o ws) (o .written-nodes) (λ n l. node-passes o ws n children (w .nodes-right n l))
       and tt)
 
   pub rules-met-if-all-pass : all-of passing (all-checks version ws) ≡ true → RulesMet version ws
@@ -217,7 +218,7 @@ module _ (version : ℕ) (ws : List ℕ) where
         latches-right = λ i l. latch-if-passes o ws i (all-of-below passing (latch-checks o ws) (o .latches) latches i l);
         gates-right = λ j l. gate-if-passes o ws j (all-of-below passing (gate-checks o ws) (o .gates) gates j l);
         constraints-right = λ c l. constraint-if-passes o ws c (all-of-below passing (constraint-checks o ws) (o .constraints) constraints c l);
-        nodes-right = λ n l. node-if-passes o ws n (all-of-below passing (node-checks o ws) (o .nodes) nodes n l);
+        nodes-right = λ n l. node-if-passes o ws n children (all-of-below passing (node-checks children o ws) (o .written-nodes) nodes n l);
       }
 
 -- ════════ What the answer says ════════
@@ -268,7 +269,7 @@ not-well-formed version ws a b n =
 
 -- Each op's shape, over words that are right, is a proper node.
 node-of-proper : (p : Problem) (o : Outline) (n op a b : ℕ) → largest-literal o ≡ 2 * W p + 1 → op < length children
-    → FirstRight o n (children-of op) a → SecondRight n (children-of op) b → NodeProper p n (node-of op a b)
+    → FirstRight o n (children-of children op) a → SecondRight n (children-of children op) b → NodeProper p n (node-of op a b)
 node-of-proper p o n zero a b e l f s = rw e at f
 node-of-proper p o n (suc zero) a b e l f s = (f, s)
 node-of-proper p o n (suc (suc zero)) a b e l f s = (f, s)
@@ -300,7 +301,7 @@ proper-if-well-formed version ws formed = record {
   right-below = λ j l. let m = is-gate j l in rw (gate-by o ws j m, latches-by, inputs-by) (w .gates-right j m .right-below);
   constraints-in-range = λ c l. let m : c < o .constraints = rw constraints-by at l in rw (constraint-by o ws c m, W-by) (w .constraints-right c m);
   nodes-proper = λ n l.
-      let m : n < o .nodes = rw nodes-by at l in
+      let m : n < o .written-nodes = rw nodes-by at l in
       let r = w .nodes-right n m in
       rw (node-by o ws n m)
       (node-of-proper (problem-by o ws) o n _ _ _ (rw W-by) (r .op-known) (r .first-word) (r .second-word));

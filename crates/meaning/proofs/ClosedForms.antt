@@ -6,7 +6,7 @@ use mathlib.Core.List.{List, [], _∷_}
 use Prim.Native.Nat.{ℕ, suc, _+_, _*_, _-_, _/_}
 use lib.Dec.{ltb}
 use lib.ListN.{length}
-use Rattle.clauses.specs.Lists.{those, sum}
+use Rattle.answers.specs.Lists.{those, sum}
 use Rattle.meaning.specs.Problem.{Problem, Latch, Node, W, atom, both, either, next, until, release}
 
 -- ════════ What is counted in the problem ════════

@@ -8,7 +8,7 @@ use native.Mathlib.Omega.{arith}
 use lib.IntN.{ℤ}
 use lib.Dec.{ltb, leb·suc-suc, leb·suc-zero}
 use lib.ListN.{length, getD, length-append, length-map}
-use Rattle.clauses.specs.Lists.{numbers, each, those, sum}
+use Rattle.answers.specs.Lists.{numbers, each, those, sum}
 use Rattle.clauses.specs.Clauses.{Clause, negated}
 use Rattle.clauses.specs.CnfWords.{words-of}
 use Rattle.meaning.specs.Problem.{Problem, Latch, Node, latch, node, atom, both, either, next, until, release}

@@ -6,10 +6,10 @@ use mathlib.Core.List.{List, [], _∷_, _++_, map}
 use Prim.Native.Nat.{ℕ, _+_}
 use native.Mathlib.Omega.{arith}
 use lib.ListN.{length}
-use Rattle.clauses.specs.Lists.{all-of, joined, sum}
+use Rattle.answers.specs.Lists.{all-of, joined, sum}
 use Rattle.clauses.specs.Clauses.{Clause, Assignment, clause-true, literal-within, Satisfies, Within}
 use Rattle.clauses.specs.CnfWords.{ended-by-0, words-of}
-use Rattle.clauses.proofs.Satisfaction.{both-true, all-of-append, all-of-first, all-of-second}
+use Rattle.answers.proofs.Tests.{both-true, all-of-append, all-of-first, all-of-second}
 use Rattle.meaning.specs.Problem.{Problem}
 use Rattle.meaning.specs.Cnf.{cnf-items, cnf, cnf-words}
 use Rattle.meaning.proofs.Numbers.{each-append}

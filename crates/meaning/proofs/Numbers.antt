@@ -7,8 +7,8 @@ use Prim.Native.Nat.{ℕ, zero, suc, _+_, _<_, zero-le, suc-le-suc, _≤_}
 use native.Mathlib.Nat.{add-zero, add-suc, zero-add, suc-add, not-suc-le-zero, le-of-suc-le-suc, eq-or-lt-of-le}
 use native.Mathlib.Omega.{arith}
 use lib.ListN.{length, getD, length-map}
-use Rattle.clauses.specs.Lists.{numbers, each, all-of}
-use Rattle.clauses.proofs.Satisfaction.{both-true, all-of-append, all-of-first, all-of-second, all-of-member, all-of-if-member}
+use Rattle.answers.specs.Lists.{numbers, each, all-of}
+use Rattle.answers.proofs.Tests.{both-true, all-of-append, all-of-first, all-of-second, all-of-member, all-of-if-member}
 
 -- ════════ Numbers ════════
 

@@ -9,11 +9,11 @@ use borrow.Author.Tests.{leb-true}
 use lib.IntN.{ℤ, pos}
 use lib.Dec.{leb}
 use lib.ListN.{length}
-use Rattle.clauses.specs.Lists.{numbers, each, joined}
-use Rattle.clauses.specs.Limits.{variables-limit}
+use Rattle.answers.specs.Lists.{numbers, each, joined}
+use Rattle.answers.specs.Limits.{variables-limit, inputs-limit, latches-limit, gates-limit, nodes-limit, bound-limit}
 use Rattle.clauses.specs.Clauses.{Clause, variable-of, literal-within, Within}
-use Rattle.clauses.proofs.Satisfaction.{both-true, all-of-append, all-of-map, all-of-if-at, first-true, second-true, variable-of-negated}
-use Rattle.meaning.specs.Limits.{inputs-limit, latches-limit, gates-limit, nodes-limit, bound-limit}
+use Rattle.answers.proofs.Tests.{both-true, all-of-append, all-of-map, all-of-if-at, first-true, second-true}
+use Rattle.clauses.proofs.Satisfaction.{variable-of-negated}
 use Rattle.meaning.specs.Problem.{Problem, Left, Node, W, latch-variable, gate-variable, latch, gate, constraint, node, constant, child, atom, both, either, next, until, release}
 use Rattle.meaning.specs.Proper.{Proper, LeftProper, NodeProper}
 use Rattle.meaning.specs.Runs.{odd}

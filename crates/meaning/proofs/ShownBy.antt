@@ -27,9 +27,9 @@ module _ (o : Outline) (ws : List ℕ) where
   unfolding problem-by
   constraints-by = length-map-numbers (read-constraint o ws) 0 (o .constraints)
 
-  pub nodes-by : length (problem-by o ws .nodes) ≡ o .nodes
+  pub nodes-by : length (problem-by o ws .nodes) ≡ o .formula-nodes
   unfolding problem-by
-  nodes-by = length-map-numbers (read-node o ws) 0 (o .nodes)
+  nodes-by = length-map-numbers (read-node o ws) 0 (o .formula-nodes)
 
   pub W-by : W (problem-by o ws) ≡ o .inputs + o .latches + o .gates
   W-by = rw (inputs-by, latches-by, gates-by)
@@ -46,9 +46,9 @@ module _ (o : Outline) (ws : List ℕ) where
   unfolding problem-by
   constraint-by c l = getD-map-numbers (read-constraint o ws) (o .constraints) c _ l
 
-  pub node-by : (n : ℕ) → n < o .nodes → node (problem-by o ws) n ≡ read-node o ws n
+  pub node-by : (n : ℕ) → n < o .formula-nodes → node (problem-by o ws) n ≡ read-node o ws n
   unfolding problem-by
-  node-by n l = getD-map-numbers (read-node o ws) (o .nodes) n _ l
+  node-by n l = getD-map-numbers (read-node o ws) (o .formula-nodes) n _ l
 
   -- Past the end.
   pub latch-past : (i : ℕ) → o .latches ≤ i → latch (problem-by o ws) i ≡ record { next = 0; reset = 2 }
@@ -60,7 +60,7 @@ module _ (o : Outline) (ws : List ℕ) where
   pub constraint-past : (c : ℕ) → o .constraints ≤ c → constraint (problem-by o ws) c ≡ 1
   constraint-past c l = List·getD-eq-default (problem-by o ws .constraints) _ (rw constraints-by l)
 
-  pub node-past : (n : ℕ) → o .nodes ≤ n → node (problem-by o ws) n ≡ atom 0
+  pub node-past : (n : ℕ) → o .formula-nodes ≤ n → node (problem-by o ws) n ≡ atom 0
   node-past n l = List·getD-eq-default (problem-by o ws .nodes) _ (rw nodes-by l)
 
 -- "Version 1 files mean D = 0."

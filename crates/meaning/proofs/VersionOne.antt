@@ -4,16 +4,15 @@ use mathlib.Core.Path.{_≡_, refl, sym, _∙_, ap}
 use mathlib.Core.Bool.{true}
 use mathlib.Core.List.{List, [], _∷_, _++_}
 use Prim.Native.Nat.{ℕ, _+_}
-use Rattle.clauses.specs.Lists.{all-of, numbers, each, joined}
-use Rattle.clauses.specs.Answers.{Answer, Check, check, first-failing, first-failing-part, granted}
+use Rattle.answers.specs.Lists.{all-of, numbers, each, joined}
+use Rattle.answers.specs.Answers.{Answer, check, first-failing, first-failing-part, granted}
 use Rattle.clauses.specs.Clauses.{Clause}
-use Rattle.clauses.proofs.Satisfaction.{all-of-map}
-use Rattle.clauses.proofs.Answers.{passing, first-failing-passed, parts-append}
-use Rattle.meaning.specs.Limits.{constraints-limit}
-use Rattle.meaning.specs.Answers.{constraint-broken}
+use Rattle.answers.proofs.Tests.{all-of-map}
+use Rattle.answers.proofs.Answers.{passing, first-failing-passed, parts-append}
+use Rattle.answers.specs.Limits.{constraints-limit}
+use Rattle.meaning.specs.Witnesses.{constraint-broken, shape, position, byte-checks, reset-checks, loop-checks, position-checks, formula-checks}
 use Rattle.meaning.specs.Problem.{Problem, header-words, problem}
 use Rattle.meaning.specs.Runs.{meets-constraints}
-use Rattle.meaning.specs.Witnesses.{shape, position, byte-checks, reset-checks, loop-checks, position-checks, formula-checks}
 use Rattle.meaning.specs.Cnf.{positions, constraints-item, cnf}
 use Rattle.meaning.specs.Calls.{check-parts, witness-parts, judge-bytes, judge-witness}
 use Rattle.meaning.specs.VersionOne.{check-before, items-before, witness-parts-before}

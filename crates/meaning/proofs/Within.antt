@@ -5,9 +5,10 @@ use mathlib.Core.List.{List, [], _∷_, _++_}
 use Prim.Native.Nat.{ℕ, _≤_}
 use borrow.Author.Tests.{le-leb}
 use lib.IntN.{ℤ, pos}
-use Rattle.clauses.specs.Lists.{all-of}
+use Rattle.answers.specs.Lists.{all-of}
 use Rattle.clauses.specs.Clauses.{Clause, negated, literal-within, Within}
-use Rattle.clauses.proofs.Satisfaction.{both-true, all-of-append, variable-of-negated}
+use Rattle.answers.proofs.Tests.{both-true, all-of-append}
+use Rattle.clauses.proofs.Satisfaction.{variable-of-negated}
 use Rattle.meaning.specs.Cnf.{signed, equal-form, or-form, and-form, until-form, release-form, guarded-form}
 use Rattle.meaning.proofs.Duals.{and-is-dual, release-is-dual}
 

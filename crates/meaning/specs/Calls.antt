@@ -1,4 +1,4 @@
--- Document 01, and Q-3 and Q-6 of document 02: the whole answer of each problem call, and every lent buffer after it. "Order: 5 words, limits, length,
+-- Document 01, and Q-6 of document 02: the whole answer of each problem call, and every lent buffer after it. "Order: 5 words, limits, length,
 -- then words in order; then 6; then 7 to 10, or 11, 12, 13, 14": each call's order is one list of parts, and the first check in it that fails answers.
 -- Assumes nothing.
 use mathlib.Core.Bool.{Bool, cond}
@@ -8,31 +8,34 @@ use Prim.Native.Nat.{ℕ}
 use lib.Dec.{leb, eqb}
 use lib.ListN.{length}
 use lib.IntN.{ℤ}
-use Rattle.clauses.specs.Lists.{those, written}
-use Rattle.clauses.specs.Answers.{Answer, Check, check, first-failing-part, granted}
+use Rattle.answers.specs.Lists.{those, written}
+use Rattle.answers.specs.Answers.{Answer, Check, check, first-failing-part, granted, room-too-small}
 use Rattle.clauses.specs.Refutations.{refutation-checks, area-checks, step-checks, closing-checks, judged, steps-of, numbers-area, clauses-area, area-after}
-use Rattle.meaning.specs.Limits.{search-limit}
-use Rattle.meaning.specs.Answers.{room-too-small, too-much-open, witness-room-too-small, none-exists}
-use Rattle.meaning.specs.Problem.{Problem, Outline, outline, problem}
+use Rattle.meaning.specs.Problem.{Problem, Outline, outline, children, problem}
 use Rattle.meaning.specs.Check.{header-checks, limit-checks, length-checks, latch-checks, gate-checks, constraint-checks, node-checks, each-below}
-use Rattle.meaning.specs.Witnesses.{witness-length, shape, open-bytes, byte-checks, reset-checks, loop-checks, position-checks, formula-checks, candidates}
+use Rattle.meaning.specs.Witnesses.{shape, byte-checks, reset-checks, loop-checks, position-checks, formula-checks, candidates}
 use Rattle.meaning.specs.Cnf.{cnf, cnf-words, variables}
 
 -- ════════ The order of answers ════════
 
 -- ".. length, then words in order": 1, then 4 and 3 of each latch, 4 of each gate and each constraint, 5 of each node.
-abbrev pub outline-parts : Outline → List ℕ → List (List Check)
-outline-parts o ws =
+-- The ops that there are, each with its children, are those of a table.
+abbrev pub outline-parts-with : List ℕ → Outline → List ℕ → List (List Check)
+outline-parts-with table o ws =
     length-checks o ws
     ∷ each-below (o .latches) (latch-checks o ws)
     ∷ each-below (o .gates) (gate-checks o ws)
     ∷ each-below (o .constraints) (constraint-checks o ws)
-    ∷ each-below (o .nodes) (node-checks o ws)
+    ∷ each-below (o .written-nodes) (node-checks table o ws)
     ∷ []
 
 -- "5 words, limits, ..": 15 and 1, then 2, then those.
+abbrev pub check-parts-with : List ℕ → ℕ → List ℕ → List (List Check)
+check-parts-with table version ws = header-checks version ws ∷ limit-checks version ws ∷ outline-parts-with table (outline version ws) ws
+
+-- A problem's ops are document 01's eight.
 abbrev pub check-parts : ℕ → List ℕ → List (List Check)
-check-parts version ws = header-checks version ws ∷ limit-checks version ws ∷ outline-parts (outline version ws) ws
+check-parts = check-parts-with children
 
 -- 6: the room has fewer words than the CNF.
 abbrev pub room-checks : Problem → ℕ → List Check
@@ -95,32 +98,6 @@ accepted p bs = eqb (judge-bytes p bs .number) 0
 
 unfoldable pub witnesses : Problem → List (List ℕ)
 witnesses p = those (accepted p) (candidates p)
-
--- ════════ Find a witness ════════
-
--- "otherwise, after 1 to 5, refusal 17", then 18, "before the search".
-abbrev pub finding-checks : Problem → ℕ → List Check
-finding-checks p room =
-    check (leb (open-bytes p) search-limit) (too-much-open (open-bytes p))
-    ∷ check (leb (witness-length p) room) (witness-room-too-small (witness-length p))
-    ∷ []
-
--- "the first witness in byte order (0, place its length)", or "none exists (29, place 0)".
-abbrev pub first-found : List (List ℕ) → Answer
-first-found [] = none-exists 0
-first-found (bs ∷ rest) = granted (length bs)
-
-unfoldable pub find-witness : ℕ → List ℕ → ℕ → Answer
-find-witness version ws room =
-    first-failing-part (check-parts version ws ++ (finding-checks (problem version ws) room ∷ [])) (first-found (witnesses (problem version ws)))
-
--- At 0 the witness room holds the first witness and then what it held; "untouched on none", and at a refusal.
-abbrev pub with-first : List (List ℕ) → List ℕ → List ℕ
-with-first [] room = room
-with-first (bs ∷ rest) room = written bs room
-
-unfoldable pub room-after-finding : Answer → ℕ → List ℕ → List ℕ → List ℕ
-room-after-finding a version ws room = cond (eqb (a .number) 0) (with-first (witnesses (problem version ws)) room) room
 
 -- ════════ Judge a refutation of a problem's CNF ════════
 

@@ -5,19 +5,17 @@ use mathlib.Core.Path.{_≡_, refl}
 use Prim.Native.Nat.{ℕ, _+_, _*_, _-_, _/_, _≤_, _<_}
 use lib.IntN.{pos, negsuc}
 use lib.ListN.{length, take, drop, replicate}
-use Rattle.clauses.specs.Lists.{numbers, each}
-use Rattle.clauses.specs.Answers.{answer, granted}
+use Rattle.answers.specs.Lists.{numbers, each}
+use Rattle.answers.specs.Answers.{answer, granted}
 use Rattle.clauses.specs.Refutations.{refutation-checks, area-checks, step-accepted}
 use Rattle.clauses.specs.Cases.{T-cnf, T-steps, T-other-steps}
-use Rattle.meaning.specs.Limits.{inputs-limit, latches-limit, gates-limit, nodes-limit, bound-limit, constraints-limit, job-limit, program-room}
+use Rattle.answers.specs.Limits.{inputs-limit, latches-limit, gates-limit, nodes-limit, bound-limit, constraints-limit}
 use Rattle.meaning.specs.Problem.{Problem, Node, atom, both, either, next, until, release, latch, node, header-words, problem-by, problem}
 use Rattle.meaning.specs.Runs.{values, next-values, meets-constraints}
 use Rattle.meaning.specs.Formulas.{formula}
 use Rattle.meaning.specs.Witnesses.{run}
 use Rattle.meaning.specs.Cnf.{variables, cnf, cnf-words}
 use Rattle.meaning.specs.Calls.{check-problem, judge-bytes, witnesses, judge-refutation}
-use Rattle.text.specs.Numbers.{bytes-of, decimal}
-use Rattle.meaning.specs.JobFile.{job-words, job-checks, cnf-text, refusal-line, job-answer, printed}
 
 -- ════════ Case T ════════
 
@@ -32,35 +30,6 @@ T-is-written = refl
 pub T-has-variables : variables (problem 1 T-words) ≡ 6
 unfolding header-words problem-by problem variables
 T-has-variables = refl
-
--- "file starts 01 00 00 00 28"
-abbrev pub T-file : List ℕ
-T-file = 1 ∷ 0 ∷ 0 ∷ 0 ∷ 40 ∷ each T-words (λ w. 0 ∷ 0 ∷ 0 ∷ w ∷ [])
-
-abbrev pub T-text : List ℕ
-T-text =
-    bytes-of "p cnf 6 12\n"
-    ++ bytes-of "1 0\n"
-    ++ bytes-of "-2 0\n"
-    ++ bytes-of "-3 -2 -2 0\n"
-    ++ bytes-of "-3 2 2 0\n"
-    ++ bytes-of "-4 2 0\n"
-    ++ bytes-of "4 -2 0\n"
-    ++ bytes-of "-5 4 0\n"
-    ++ bytes-of "5 -4 0\n"
-    ++ bytes-of "-3 -6 5 0\n"
-    ++ bytes-of "-3 6 -5 0\n"
-    ++ bytes-of "-6 3 0\n"
-    ++ bytes-of "4 0\n"
-
-pub T-is-printed : printed T-file ≡ T-text
-unfolding header-words problem-by problem cnf cnf-words variables inputs-limit latches-limit gates-limit nodes-limit bound-limit constraints-limit job-limit program-room job-words job-checks decimal cnf-text refusal-line job-answer printed
-T-is-printed = refl
-
--- "refused 15 at 0": a file of another version.
-pub other-version-is-refused : printed (9 ∷ 0 ∷ 0 ∷ 0 ∷ 0 ∷ []) ≡ bytes-of "refused 15 at 0\n"
-unfolding header-words job-limit job-checks decimal refusal-line job-answer printed
-other-version-is-refused = refl
 
 -- "Refutation 0 2 12 5 0 is accepted; 0 12 5 0 is refused (13 at 0)."
 pub T-is-refuted : judge-refutation 1 T-words T-steps 38 7 13 ≡ answer 0 0

@@ -5,11 +5,10 @@ use mathlib.Core.List.{List, [], _∷_}
 use Prim.Native.Nat.{ℕ, zero, suc, _+_, _*_}
 use lib.Dec.{leb, ltb, eqb}
 use lib.ListN.{length, getD}
-use Rattle.clauses.specs.Lists.{numbers, each}
-use Rattle.clauses.specs.Answers.{Check, check}
-use Rattle.meaning.specs.Limits.{inputs-limit, latches-limit, gates-limit, nodes-limit, bound-limit, constraints-limit}
-use Rattle.meaning.specs.Answers.{bad-length, outside-limits, bad-reset, bad-literal, bad-node, bad-job}
-use Rattle.meaning.specs.Problem.{Outline, header-words, word, header-word, latch-place, gate-place, constraint-place, node-place, words-in-all, children}
+use Rattle.answers.specs.Lists.{numbers, each}
+use Rattle.answers.specs.Answers.{Check, check, bad-length, outside-limits, bad-reset, bad-literal, bad-node, bad-job}
+use Rattle.answers.specs.Limits.{inputs-limit, latches-limit, gates-limit, nodes-limit, bound-limit, constraints-limit}
+use Rattle.meaning.specs.Problem.{Outline, header-words, word, header-word, latch-place, gate-place, constraint-place, node-place, words-in-all}
 
 -- ════════ The rules ════════
 
@@ -35,8 +34,9 @@ second-right n zero b = eqb b 0
 second-right n (suc zero) b = eqb b 0
 second-right n (suc (suc c)) b = ltb b n
 
-abbrev pub children-of : ℕ → ℕ
-children-of op = getD children op 0
+-- How many children an op has, by a table of the ops that there are.
+abbrev pub children-of : List ℕ → ℕ → ℕ
+children-of table op = getD table op 0
 
 -- ════════ The checks ════════
 
@@ -68,11 +68,15 @@ limit-checks version ws =
 abbrev pub length-checks : Outline → List ℕ → List Check
 length-checks o ws = check (eqb (length ws) (words-in-all o)) (bad-length (length ws)) ∷ []
 
+-- A literal's word is at most so large; a reset's is at most 2.
+abbrev pub literal-check : List ℕ → ℕ → ℕ → Check
+literal-check ws at most = check (leb (word ws at) most) (bad-literal at)
+
+abbrev pub reset-check : List ℕ → ℕ → Check
+reset-check ws at = check (leb (word ws at) largest-reset) (bad-reset at)
+
 abbrev pub latch-checks : Outline → List ℕ → ℕ → List Check
-latch-checks o ws i =
-    check (leb (word ws (latch-place o i)) (largest-literal o)) (bad-literal (latch-place o i))
-    ∷ check (leb (word ws (latch-place o i + 1)) largest-reset) (bad-reset (latch-place o i + 1))
-    ∷ []
+latch-checks o ws i = literal-check ws (latch-place o i) (largest-literal o) ∷ reset-check ws (latch-place o i + 1) ∷ []
 
 abbrev pub gate-checks : Outline → List ℕ → ℕ → List Check
 gate-checks o ws j =
@@ -82,14 +86,14 @@ gate-checks o ws j =
 
 -- "D literals, each at most 2W + 1"
 abbrev pub constraint-checks : Outline → List ℕ → ℕ → List Check
-constraint-checks o ws c =
-    check (leb (word ws (constraint-place o c)) (largest-literal o)) (bad-literal (constraint-place o c)) ∷ []
+constraint-checks o ws c = literal-check ws (constraint-place o c) (largest-literal o) ∷ []
 
-abbrev pub node-checks : Outline → List ℕ → ℕ → List Check
-node-checks o ws n =
-    check (ltb (word ws (node-place o n)) (length children)) (bad-node (node-place o n))
-    ∷ check (first-right o n (children-of (word ws (node-place o n))) (word ws (node-place o n + 1))) (bad-node (node-place o n + 1))
-    ∷ check (second-right n (children-of (word ws (node-place o n))) (word ws (node-place o n + 2))) (bad-node (node-place o n + 2))
+-- By the table of how many children each op has; an op past its end is not known.
+abbrev pub node-checks : List ℕ → Outline → List ℕ → ℕ → List Check
+node-checks table o ws n =
+    check (ltb (word ws (node-place o n)) (length table)) (bad-node (node-place o n))
+    ∷ check (first-right o n (children-of table (word ws (node-place o n))) (word ws (node-place o n + 1))) (bad-node (node-place o n + 1))
+    ∷ check (second-right n (children-of table (word ws (node-place o n))) (word ws (node-place o n + 2))) (bad-node (node-place o n + 2))
     ∷ []
 
 -- The checks of so many numbers from 0 on.

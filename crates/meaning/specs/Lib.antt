@@ -1,7 +1,5 @@
 -- Document 01 by its sections: the problem, its runs and meaning, witnesses, the CNF, the calls, the job file. Proper and LassoValue are laws of
 -- these, for contracts and for the judge.
-pub mod Limits
-pub mod Answers
 pub mod Problem
 pub mod Check
 pub mod Proper
@@ -13,5 +11,4 @@ pub mod Witnesses
 pub mod Cnf
 pub mod Calls
 pub mod VersionOne
-pub mod JobFile
 pub mod Cases

@@ -4,7 +4,7 @@ use mathlib.Core.List.{List, [], _∷_, map}
 use Prim.Native.Nat.{ℕ, _+_, _*_}
 use lib.Dec.{ltb, eqb}
 use lib.ListN.{length, getD}
-use Rattle.clauses.specs.Lists.{numbers}
+use Rattle.answers.specs.Lists.{numbers}
 
 -- ════════ The record ════════
 
@@ -90,13 +90,14 @@ word ws i = getD ws i 0
 abbrev pub header-word : ℕ → List ℕ → ℕ → ℕ
 header-word version ws i = cond (ltb i (header-words version)) (word ws i) 0
 
--- The sizes of a problem, its W, and where each of its parts begins in its words.
+-- The sizes of a problem, its W, and where each of its parts begins in its words. The nodes of the words and those of the formula are two numbers.
 pub record Outline : Type 0 where
   pub inputs : ℕ
   pub latches : ℕ
   pub gates : ℕ
   pub constraints : ℕ
-  pub nodes : ℕ
+  pub written-nodes : ℕ
+  pub formula-nodes : ℕ
   pub bound : ℕ
   pub width : ℕ
   pub latches-from : ℕ
@@ -111,7 +112,8 @@ outline version ws = record {
   latches = word ws 1;
   gates = word ws 2;
   constraints = header-word version ws 5;
-  nodes = word ws 3;
+  written-nodes = word ws 3;
+  formula-nodes = word ws 3;
   bound = word ws 4;
   width = word ws 0 + word ws 1 + word ws 2;
   latches-from = header-words version;
@@ -135,7 +137,7 @@ node-place o n = o .nodes-from + 3 * n
 
 -- "5+2L+2A+3N", "6+2L+2A+D+3N"
 abbrev pub words-in-all : Outline → ℕ
-words-in-all o = node-place o (o .nodes)
+words-in-all o = node-place o (o .written-nodes)
 
 -- "How many children each op has stands in one fixed table."
 abbrev pub children : List ℕ
@@ -177,7 +179,7 @@ problem-by o ws = record {
   latches = map (read-latch o ws) (numbers 0 (o .latches));
   gates = map (read-gate o ws) (numbers 0 (o .gates));
   constraints = map (read-constraint o ws) (numbers 0 (o .constraints));
-  nodes = map (read-node o ws) (numbers 0 (o .nodes));
+  nodes = map (read-node o ws) (numbers 0 (o .formula-nodes));
   bound = o .bound;
 }
 

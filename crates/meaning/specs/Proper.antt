@@ -4,7 +4,7 @@ use mathlib.Core.List.{List}
 use mathlib.Core.Path.{_≡_}
 use Prim.Native.Nat.{ℕ, zero, suc, _+_, _*_, _≤_, _<_}
 use lib.ListN.{length}
-use Rattle.meaning.specs.Limits.{inputs-limit, latches-limit, gates-limit, nodes-limit, bound-limit, constraints-limit}
+use Rattle.answers.specs.Limits.{inputs-limit, latches-limit, gates-limit, nodes-limit, bound-limit, constraints-limit}
 use Rattle.meaning.specs.Problem.{Problem, Left, Node, constant, child, atom, both, either, next, until, release, W, gate-variable, latch, gate, constraint, node, Outline, outline, header-words, word, latch-place, gate-place, constraint-place, node-place, words-in-all, children}
 use Rattle.meaning.specs.Check.{largest-literal, gate-limit, largest-reset, children-of}
 
@@ -28,18 +28,19 @@ SecondRight n zero b = b ≡ 0
 SecondRight n (suc zero) b = b ≡ 0
 SecondRight n (suc (suc c)) b = b < n
 
-pub record NodeRight (o : Outline) (ws : List ℕ) (n : ℕ) : Type 0 where
-  pub op-known : word ws (node-place o n) < length children
-  pub first-word : FirstRight o n (children-of (word ws (node-place o n))) (word ws (node-place o n + 1))
-  pub second-word : SecondRight n (children-of (word ws (node-place o n))) (word ws (node-place o n + 2))
+-- The ops that there are, each with its children, are those of a table.
+pub record NodeRight (table : List ℕ) (o : Outline) (ws : List ℕ) (n : ℕ) : Type 0 where
+  pub op-known : word ws (node-place o n) < length table
+  pub first-word : FirstRight o n (children-of table (word ws (node-place o n))) (word ws (node-place o n + 1))
+  pub second-word : SecondRight n (children-of table (word ws (node-place o n))) (word ws (node-place o n + 2))
 
 -- The sizes are within the limits.
 pub record InLimits (o : Outline) : Type 0 where
   pub inputs-within : o .inputs ≤ inputs-limit
   pub latches-within : o .latches ≤ latches-limit
   pub gates-within : o .gates ≤ gates-limit
-  pub nodes-some : 1 ≤ o .nodes
-  pub nodes-within : o .nodes ≤ nodes-limit
+  pub nodes-some : 1 ≤ o .formula-nodes
+  pub nodes-within : o .formula-nodes ≤ nodes-limit
   pub bound-within : o .bound ≤ bound-limit
   pub constraints-within : o .constraints ≤ constraints-limit
 
@@ -52,7 +53,7 @@ pub record RulesMet (version : ℕ) (ws : List ℕ) : Type 0 where
   pub latches-right : (i : ℕ) → i < outline version ws .latches → LatchRight (outline version ws) ws i
   pub gates-right : (j : ℕ) → j < outline version ws .gates → GateRight (outline version ws) ws j
   pub constraints-right : (c : ℕ) → c < outline version ws .constraints → word ws (constraint-place (outline version ws) c) ≤ largest-literal (outline version ws)
-  pub nodes-right : (n : ℕ) → n < outline version ws .nodes → NodeRight (outline version ws) ws n
+  pub nodes-right : (n : ℕ) → n < outline version ws .written-nodes → NodeRight children (outline version ws) ws n
 
 -- ════════ The rules, of the record ════════
 

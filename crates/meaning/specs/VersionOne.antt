@@ -1,10 +1,10 @@
 -- Document 01's check, CNF and judge of a witness, without the constraints of Q-6 of document 02: what version 1 keeps. Assumes nothing.
 use mathlib.Core.List.{List, [], _∷_}
 use Prim.Native.Nat.{ℕ}
-use Rattle.clauses.specs.Answers.{Check}
+use Rattle.answers.specs.Answers.{Check}
 use Rattle.clauses.specs.Clauses.{Clause}
-use Rattle.meaning.specs.Limits.{inputs-limit, latches-limit, gates-limit, nodes-limit, bound-limit}
-use Rattle.meaning.specs.Problem.{Problem, outline}
+use Rattle.answers.specs.Limits.{inputs-limit, latches-limit, gates-limit, nodes-limit, bound-limit}
+use Rattle.meaning.specs.Problem.{Problem, outline, children}
 use Rattle.meaning.specs.Check.{header-checks, limit-check, length-checks, latch-checks, gate-checks, node-checks, each-below}
 use Rattle.meaning.specs.Witnesses.{shape, byte-checks, reset-checks, loop-checks, formula-checks}
 use Rattle.meaning.specs.Cnf.{truth-item, gates-item, resets-item, steps-item, closing-item, selectors-item, nodes-item, formula-item}
@@ -22,7 +22,7 @@ check-before ws =
     ∷ length-checks (outline 1 ws) ws
     ∷ each-below (outline 1 ws .latches) (latch-checks (outline 1 ws) ws)
     ∷ each-below (outline 1 ws .gates) (gate-checks (outline 1 ws) ws)
-    ∷ each-below (outline 1 ws .nodes) (node-checks (outline 1 ws) ws)
+    ∷ each-below (outline 1 ws .written-nodes) (node-checks children (outline 1 ws) ws)
     ∷ []
 
 -- Items 1 to 8 as document 01 has them.

@@ -6,10 +6,9 @@ use mathlib.Core.Path.{_≡_}
 use Prim.Native.Nat.{ℕ, zero, suc, _+_, _*_, _≤_, _<_}
 use lib.Dec.{leb, ltb, eqb}
 use lib.ListN.{length, getD, take, drop}
-use Rattle.clauses.specs.Lists.{numbers, numbered, each, those}
-use Rattle.clauses.specs.Answers.{Check, check}
-use Rattle.meaning.specs.Answers.{bad-witness, against-reset, open-loop, constraint-broken, formula-false}
-use Rattle.meaning.specs.Problem.{Problem, Latch, latch}
+use Rattle.answers.specs.Lists.{numbers, numbered, each}
+use Rattle.answers.specs.Answers.{Answer, Check, answer, check, bad-witness, against-reset, open-loop, formula-false}
+use Rattle.meaning.specs.Problem.{Problem, latch}
 use Rattle.meaning.specs.Runs.{Position, values, next-values, meets-reset, meets-constraints, run-from, StartsRight}
 use Rattle.meaning.specs.Formulas.{formula, Holds}
 use Rattle.meaning.specs.Bounded.{Shape, prefix, lasso, looped, prefix-value}
@@ -102,7 +101,10 @@ loop-checks p bs (lasso l) =
     (λ i. check (Bool·beq (getD (next-values p (position p bs (p .bound))) i false) (getD (position p bs l .latches) i false)) (open-loop i))
     (numbers 0 (length (p .latches)))
 
--- 20: the first position at which a constraint is false.
+-- 20: a constraint is false; the first position
+abbrev pub constraint-broken : ℕ → Answer
+constraint-broken = answer 20
+
 abbrev pub position-checks : Problem → List ℕ → List Check
 position-checks p bs = map (λ t. check (meets-constraints p (position p bs t)) (constraint-broken t)) (numbers 0 (p .bound + 1))
 
@@ -127,11 +129,3 @@ abbrev pub at-or-before : List ℕ → List ℕ → Bool
 at-or-before [] cs = true
 at-or-before (b ∷ bs) [] = false
 at-or-before (b ∷ bs) (c ∷ cs) = ltb b c || (eqb b c && at-or-before bs cs)
-
--- "2 for free"
-abbrev pub is-free : Latch → Bool
-is-free c = eqb (c .reset) 2
-
--- "free resets plus I(k+1)": the bytes after the first that no reset fixes.
-abbrev pub open-bytes : Problem → ℕ
-open-bytes p = length (those is-free (p .latches)) + p .inputs * (p .bound + 1)

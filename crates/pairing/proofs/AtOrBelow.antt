@@ -7,10 +7,10 @@ use Prim.Native.Nat.{ℕ, _≤_}
 use native.Mathlib.Nat.{le-refl}
 use lib.IntN.{ℤ}
 use lib.ListN.{length}
-use Rattle.clauses.specs.Answers.{first-failing, granted}
+use Rattle.answers.specs.Answers.{first-failing, granted}
 use Rattle.clauses.specs.Clauses.{Assignment}
 use Rattle.clauses.specs.Refutable.{Refutation}
-use Rattle.clauses.proofs.Answers.{after-if-granted, number-of}
+use Rattle.answers.proofs.Answers.{after-if-granted, number-of}
 use Rattle.clauses.proofs.Sound.{refuted-clauses}
 use Rattle.clauses.proofs.Complete.{refutable}
 use Rattle.meaning.specs.Problem.{Problem, problem}
@@ -94,13 +94,6 @@ pub problem-refutable : (p : Problem) → Proper p → ((bs : List ℕ) → Witn
 problem-refutable p proper none =
     refutable (variables p) (cnf p) (literals-within p proper) (λ a right satisfied.
     let w = satisfiable-at-bound p proper .0 (a, record { length-right = right; satisfies = satisfied }) in none (w .0) (w .1))
-
--- None at or below the bound is none at it, so there is one then too.
-pub none-at-bound : (p : Problem) → (WitnessAtOrBelow p → ⊥) → (bs : List ℕ) → Witness p bs → ⊥
-none-at-bound p none bs w = none (at-or-below-if-at p bs w)
-
-pub refutable-at-or-below : (p : Problem) → Proper p → (WitnessAtOrBelow p → ⊥) → Refutation (variables p) (cnf p)
-refutable-at-or-below p proper none = problem-refutable p proper (none-at-bound p none)
 
 -- ════════ Version 1 ════════
 

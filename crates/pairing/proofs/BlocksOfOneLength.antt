@@ -6,7 +6,7 @@ use native.Mathlib.Nat.{add-zero, add-suc, zero-add, suc-add, zero-mul, suc-mul,
 use native.Mathlib.Omega.{arith}
 use lib.ListN.{length, getD, take, drop, length-append, length-drop, List·getD-append}
 use lib.Seq.{getD-append-add, drop-cons, take-add, take-all, drop-drop}
-use Rattle.clauses.specs.Lists.{numbers, each}
+use Rattle.answers.specs.Lists.{numbers, each}
 
 -- ════════ Two lists, one behind the other ════════
 

@@ -9,8 +9,8 @@ use borrow.Author.Tests.{leb-true, ne-eqb}
 use lib.Dec.{eqb, leb}
 use lib.ListN.{length, getD, take, drop, length-append, length-drop, List·getD-map, take-append-drop}
 use lib.Seq.{getD-take, getD-drop, take-at, drop-at, drop-drop, length-take-le, ext-getD}
-use Rattle.clauses.specs.Lists.{numbers, each, all-of}
-use Rattle.clauses.proofs.Satisfaction.{both-true, eqb-self, all-of-append, all-of-at, all-of-map, all-of-if-member}
+use Rattle.answers.specs.Lists.{numbers, each, all-of}
+use Rattle.answers.proofs.Tests.{both-true, eqb-self, all-of-append, all-of-at, all-of-map, all-of-if-member}
 use Rattle.meaning.specs.Problem.{Problem, latch-variable}
 use Rattle.meaning.specs.Bounded.{prefix, lasso}
 use Rattle.meaning.specs.Witnesses.{witness-length, byte, shape-of, shape, bits, first-latches, inputs-at}

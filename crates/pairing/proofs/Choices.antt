@@ -8,8 +8,8 @@ use native.Mathlib.Decide.{decLe}
 use native.Mathlib.Omega.{arith}
 use borrow.Author.Tests.{eqb-true, ne-eqb}
 use lib.Dec.{eqb}
-use Rattle.clauses.specs.Lists.{some-of}
-use Rattle.clauses.proofs.Satisfaction.{both-true, first-true, second-true, not-both, false-if-not-true, eqb-self, some-of-member, some-of-witness}
+use Rattle.answers.specs.Lists.{some-of}
+use Rattle.answers.proofs.Tests.{both-true, first-true, second-true, not-both, false-if-not-true, eqb-self, some-of-member, some-of-witness}
 use Rattle.meaning.specs.Problem.{Problem}
 use Rattle.meaning.specs.Bounded.{Shape, prefix, lasso}
 use Rattle.meaning.specs.Witnesses.{shape}

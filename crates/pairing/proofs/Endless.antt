@@ -6,7 +6,7 @@ use mathlib.Core.List.{List}
 use Prim.Native.Nat.{ℕ, zero, suc, _+_, _<_, _≤_}
 use native.Mathlib.Omega.{arith}
 use lib.ListN.{length}
-use Rattle.clauses.specs.Answers.{granted}
+use Rattle.answers.specs.Answers.{granted}
 use Rattle.meaning.specs.Problem.{Problem}
 use Rattle.meaning.specs.Runs.{Position, values, next-values, meets-constraints, StartsRight, EndlessRun}
 use Rattle.meaning.specs.Formulas.{formula, Holds}

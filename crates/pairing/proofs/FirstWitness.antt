@@ -8,9 +8,9 @@ use Prim.Native.Nat.{ℕ, zero, suc, _+_, _<_}
 use native.Mathlib.Omega.{arith}
 use borrow.Author.Tests.{lt-ltb}
 use lib.Dec.{ltb}
-use Rattle.clauses.specs.Lists.{numbers, each, those}
+use Rattle.answers.specs.Lists.{numbers, each, those}
 use Rattle.clauses.specs.Clauses.{Assignment}
-use Rattle.clauses.proofs.Satisfaction.{both-true, or-second, eqb-self, of-those}
+use Rattle.answers.proofs.Tests.{both-true, or-second, eqb-self, of-those}
 use Rattle.meaning.specs.Problem.{Problem}
 use Rattle.meaning.specs.Proper.{Proper}
 use Rattle.meaning.specs.Witnesses.{Witness, all-bits, candidates, at-or-before}

@@ -4,10 +4,11 @@ use mathlib.Core.Logic.{_↔_, Iff·rfl, Iff·trans}
 use mathlib.Core.Bool.{Bool, true, false, not, _&&_, _||_, cond, Bool·beq, Bool·not-not, and-true, or-false, false≢true}
 use mathlib.Core.List.{List, [], _∷_, map}
 use lib.IntN.{ℤ}
-use Rattle.clauses.specs.Lists.{some-of}
+use Rattle.answers.specs.Lists.{some-of}
 use Rattle.clauses.specs.Clauses.{Clause, Assignment, negated, literal-true, Satisfies}
 use Rattle.clauses.specs.CnfWords.{is-0}
-use Rattle.clauses.proofs.Satisfaction.{negated-negated, literal-true-negated, some-of-map}
+use Rattle.clauses.proofs.Satisfaction.{negated-negated, literal-true-negated}
+use Rattle.answers.proofs.Tests.{some-of-map}
 use Rattle.meaning.specs.Runs.{turned}
 use Rattle.meaning.specs.Cnf.{signed, equal-form, or-form, and-form, until-form, release-form, guarded-form}
 use Rattle.meaning.proofs.Duals.{and-is-dual, release-is-dual}

@@ -7,7 +7,7 @@ use Prim.Native.Nat.{ℕ, zero, suc, _+_, _-_, _≤_, _<_, zero-le}
 use native.Mathlib.Omega.{arith}
 use lib.IntN.{ℤ}
 use lib.ListN.{length}
-use Rattle.clauses.specs.Lists.{numbers, each}
+use Rattle.answers.specs.Lists.{numbers, each}
 use Rattle.clauses.specs.Clauses.{Clause, Assignment, clause-true, Satisfies}
 use Rattle.clauses.proofs.Satisfaction.{satisfies-append, satisfies-first, satisfies-second}
 use Rattle.meaning.specs.Problem.{Problem, latch, gate, constraint, latch-variable, gate-variable}

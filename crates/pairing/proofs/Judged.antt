@@ -3,8 +3,8 @@ use mathlib.Core.Path.{_≡_, sym, _∙_}
 use mathlib.Core.Logic.{_↔_}
 use mathlib.Core.List.{List}
 use Prim.Native.Nat.{ℕ}
-use Rattle.clauses.specs.Answers.{granted}
-use Rattle.clauses.proofs.Answers.{number-of}
+use Rattle.answers.specs.Answers.{granted}
+use Rattle.answers.proofs.Answers.{number-of}
 use Rattle.meaning.specs.Problem.{problem}
 use Rattle.meaning.specs.Witnesses.{Witness}
 use Rattle.meaning.specs.Calls.{WellFormed, judge-bytes, judge-witness}

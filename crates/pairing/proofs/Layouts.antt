@@ -9,7 +9,7 @@ use native.Mathlib.Omega.{arith}
 use lib.IntN.{pos}
 use lib.ListN.{length, getD, length-append}
 use lib.Seq.{drop-cons}
-use Rattle.clauses.specs.Lists.{numbers, each}
+use Rattle.answers.specs.Lists.{numbers, each}
 use Rattle.clauses.specs.Clauses.{Assignment, literal-true}
 use Rattle.meaning.specs.Problem.{Problem, W}
 use Rattle.meaning.specs.Cnf.{node-variables, variables, positions}

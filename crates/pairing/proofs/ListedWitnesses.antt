@@ -8,10 +8,10 @@ use native.Mathlib.Nat.{le-of-suc-le-suc, not-suc-le-zero}
 use native.Mathlib.Omega.{arith}
 use borrow.Author.Tests.{eqb-true}
 use lib.ListN.{length, getD, drop}
-use Rattle.clauses.specs.Lists.{numbers, each, those}
-use Rattle.clauses.specs.Answers.{granted}
-use Rattle.clauses.proofs.Satisfaction.{all-of-member, those-member, those-pass, of-those}
-use Rattle.clauses.proofs.Answers.{all-pass-if-yes, first-failing-passed, number-of}
+use Rattle.answers.specs.Lists.{numbers, each, those}
+use Rattle.answers.specs.Answers.{granted}
+use Rattle.answers.proofs.Tests.{all-of-member, those-member, those-pass, of-those}
+use Rattle.answers.proofs.Answers.{all-pass-if-yes, first-failing-passed, number-of}
 use Rattle.meaning.specs.Problem.{Problem}
 use Rattle.meaning.specs.Witnesses.{byte, Witness, all-bits, candidates}
 use Rattle.meaning.specs.Calls.{judge-bytes, accepted, witnesses}

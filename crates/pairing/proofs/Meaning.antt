@@ -8,7 +8,7 @@ use native.Mathlib.Decide.{decLe}
 use native.Mathlib.Omega.{arith}
 use borrow.Author.Tests.{leb-true, le-leb}
 use lib.Dec.{leb}
-use Rattle.clauses.proofs.Satisfaction.{both-true, first-true, second-true, one-true, or-first, or-second}
+use Rattle.answers.proofs.Tests.{both-true, first-true, second-true, one-true, or-first, or-second}
 use Rattle.meaning.specs.Formulas.{Formula, True, atom, both, either, next, until, release}
 use Rattle.meaning.specs.Bounded.{looped, up-to, prefix-value}
 use Rattle.meaning.specs.LassoValue.{loop-value}

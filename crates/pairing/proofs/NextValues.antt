@@ -9,7 +9,7 @@ use native.Mathlib.Numerals.{add-one}
 use native.Mathlib.Omega.{arith}
 use borrow.Author.Tests.{leb-true, le-leb, lt-leb}
 use lib.Dec.{leb}
-use Rattle.clauses.specs.Lists.{numbers}
+use Rattle.answers.specs.Lists.{numbers}
 use Rattle.meaning.specs.LassoValue.{until-over, release-over}
 use Rattle.pairing.specs.NodeLaws.{at-next}
 

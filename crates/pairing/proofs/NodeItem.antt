@@ -5,7 +5,7 @@ use mathlib.Core.Bool.{true}
 use mathlib.Core.List.{List, [], _∷_, _++_}
 use Prim.Native.Nat.{ℕ, _≤_, _<_}
 use lib.ListN.{length}
-use Rattle.clauses.specs.Lists.{some-of, each}
+use Rattle.answers.specs.Lists.{some-of, each}
 use Rattle.clauses.specs.Clauses.{Clause, Assignment, Satisfies, literal-true}
 use Rattle.meaning.specs.Problem.{Problem, Node, node, atom, both, either, next, until, release}
 use Rattle.meaning.specs.Proper.{Proper, NodeProper}

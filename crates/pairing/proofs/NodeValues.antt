@@ -7,7 +7,7 @@ use Prim.Native.Nat.{ℕ, zero, suc, _-_, _≤_, _<_, zero-le, _+_}
 use native.Mathlib.Nat.{le-refl, eq-or-lt-of-le, le-of-suc-le-suc}
 use native.Mathlib.Omega.{arith}
 use lib.ListN.{length, getD}
-use Rattle.clauses.specs.Lists.{numbers}
+use Rattle.answers.specs.Lists.{numbers}
 use Rattle.meaning.specs.Problem.{Problem, Left, Node, node, constant, child, atom, both, either, next, until, release}
 use Rattle.meaning.specs.Proper.{LeftProper}
 use Rattle.meaning.specs.Runs.{literal-value}

@@ -11,7 +11,7 @@ use native.Mathlib.Omega.{arith}
 use borrow.Author.Tests.{leb-true, le-leb, lt-leb}
 use lib.Dec.{leb}
 use lib.ListN.{length, getD}
-use Rattle.clauses.proofs.Satisfaction.{both-true, first-true, second-true, not-both, false-if-not-true}
+use Rattle.answers.proofs.Tests.{both-true, first-true, second-true, not-both, false-if-not-true}
 use Rattle.meaning.specs.Problem as Nodes
 use Rattle.meaning.specs.Problem.{Problem, constant, node}
 use Rattle.meaning.specs.Proper.{Proper}

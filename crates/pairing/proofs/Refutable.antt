@@ -7,13 +7,14 @@ use native.Mathlib.Omega.{arith}
 use borrow.Author.Tests.{le-leb}
 use lib.IntN.{ℤ, pos}
 use lib.ListN.{length, getD}
-use Rattle.clauses.specs.Lists.{all-of}
-use Rattle.clauses.specs.Limits.{variables-limit}
-use Rattle.clauses.specs.Answers.{granted}
+use Rattle.answers.specs.Lists.{all-of}
+use Rattle.answers.specs.Limits.{variables-limit}
+use Rattle.answers.specs.Answers.{granted}
 use Rattle.clauses.specs.Clauses.{size}
 use Rattle.clauses.specs.Refutations.{steps-of, refutation-checks, area-checks, judge-steps}
-use Rattle.clauses.proofs.Satisfaction.{both-true}
-use Rattle.clauses.proofs.Answers.{passing, first-failing-passed, clauses-judged}
+use Rattle.answers.proofs.Tests.{both-true}
+use Rattle.answers.proofs.Answers.{passing, first-failing-passed}
+use Rattle.clauses.proofs.Judges.{clauses-judged}
 use Rattle.clauses.proofs.WordSizes.{words-below}
 use Rattle.clauses.proofs.RefutableWords.{areas-pass, refutation-words, steps-yes, words-pass, refutation-fits}
 use Rattle.meaning.specs.Problem.{problem}
@@ -23,9 +24,8 @@ use Rattle.meaning.specs.Calls.{WellFormed, room-checks, judge-refutation}
 use Rattle.meaning.proofs.Check.{checked-if-well-formed, proper-if-well-formed}
 use Rattle.meaning.proofs.Calls.{refutation-by-clauses}
 use Rattle.meaning.proofs.Ranges.{variables-fit}
-use Rattle.pairing.specs.Pairs.{WitnessAtOrBelow}
 use Rattle.pairing.specs.Refutable.{AcceptedRefutation}
-use Rattle.pairing.proofs.AtOrBelow.{problem-refutable, none-at-bound}
+use Rattle.pairing.proofs.AtOrBelow.{problem-refutable}
 
 module _ (version : ℕ) (ws : List ℕ) (formed : WellFormed version ws) where
   -- Where 6, 11 and 12 pass, and so do the steps.
@@ -53,10 +53,6 @@ module _ (version : ℕ) (ws : List ℕ) (formed : WellFormed version ws) where
             (areas-pass (variables (problem version ws)) (cnf (problem version ws)) (steps-of (refutation-words r)) m n p q) (steps-yes r);
         words-fit = refutation-fits r;
       }
-
-  -- So it does where none is at or below it.
-  pub refutable-words-at-or-below : (WitnessAtOrBelow (problem version ws) → ⊥) → AcceptedRefutation version ws
-  refutable-words-at-or-below none = problem-refutable-words (none-at-bound (problem version ws) none)
 
   -- A problem's variables are few, so where its clauses and the steps together fit a signed word, the size of each word does.
   pub refutation-below : (a : AcceptedRefutation version ws) → length (cnf (problem version ws)) + length (steps-of (a .words)) < 2 ^ 31

@@ -7,7 +7,7 @@ use native.Mathlib.Numerals.{add-one}
 use native.Mathlib.Omega.{arith}
 use lib.ListN.{length, getD}
 use lib.Seq.{ext-getD}
-use Rattle.clauses.specs.Lists.{numbers}
+use Rattle.answers.specs.Lists.{numbers}
 use Rattle.meaning.specs.Problem.{Problem, W, latch-variable, gate-variable, latch, gate, constraint, Latch}
 use Rattle.meaning.specs.Proper.{Proper}
 use Rattle.meaning.specs.Runs.{Position, literal-value, gate-value, meets-reset, values, next-values, meets-constraints, StartsRight}

@@ -7,8 +7,8 @@ use Prim.Native.Nat.{ℕ, zero, suc, _+_, _<_, _≤_}
 use native.Mathlib.Nat.{le-of-suc-le-suc, not-suc-le-zero, mul-le-mul-left, mul-suc, zero-add}
 use native.Mathlib.Omega.{arith}
 use lib.ListN.{length, getD, length-map, length-take, length-drop}
-use Rattle.clauses.specs.Lists.{numbers}
-use Rattle.clauses.proofs.Satisfaction.{all-of-at, all-of-if-at}
+use Rattle.answers.specs.Lists.{numbers}
+use Rattle.answers.proofs.Tests.{all-of-at, all-of-if-at}
 use Rattle.meaning.specs.Problem.{Problem, constraint}
 use Rattle.meaning.specs.Runs.{Position, literal-value, values, next-values, meets-constraints, run-from}
 use Rattle.meaning.specs.Witnesses.{witness-length, first-latches, inputs-at, run, position}

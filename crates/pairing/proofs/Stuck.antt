@@ -4,7 +4,7 @@ use mathlib.Core.Logic.{_↔_}
 use mathlib.Core.List.{List, [], _∷_, List·Memᴰ·head}
 use Prim.Native.Nat.{zero-le}
 use lib.ListN.{getD}
-use Rattle.clauses.specs.Answers.{Answer, granted}
+use Rattle.answers.specs.Answers.{Answer, granted}
 use Rattle.clauses.specs.Clauses.{Assignment}
 use Rattle.meaning.specs.Problem.{header-words, problem-by, problem}
 use Rattle.meaning.specs.Cases.{stuck, stuck-at-0, stuck-at-1, constrained-are-formed}

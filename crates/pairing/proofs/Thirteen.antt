@@ -2,7 +2,7 @@
 use mathlib.Core.Path.{_≡_, refl, sym, _∙_, ap}
 use mathlib.Core.List.{List, map, List·Memᴰ, List·Memᴰ·head, List·Memᴰ·tail}
 use lib.ListN.{length, getD, drop}
-use Rattle.clauses.specs.Answers.{granted}
+use Rattle.answers.specs.Answers.{granted}
 use Rattle.meaning.specs.Problem.{Problem, problem}
 use Rattle.meaning.specs.Cases.{Case, thirteen-cases, thirteen-are-formed, thirteen-counts}
 use Rattle.meaning.specs.Calls.{check-problem, WellFormed, witnesses}

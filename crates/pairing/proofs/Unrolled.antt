@@ -7,8 +7,8 @@ use Prim.Native.Nat.{ℕ, zero, suc, _+_, _-_, _≤_, _<_}
 use native.Mathlib.Nat.{zero-add, suc-add, eq-or-lt-of-le}
 use native.Mathlib.Decide.{decLe}
 use native.Mathlib.Omega.{arith}
-use Rattle.clauses.specs.Lists.{numbers}
-use Rattle.clauses.proofs.Satisfaction.{one-true, second-true}
+use Rattle.answers.specs.Lists.{numbers}
+use Rattle.answers.proofs.Tests.{one-true, second-true}
 use Rattle.meaning.specs.Bounded.{after}
 use Rattle.meaning.specs.LassoValue.{onward, until-over, release-over}
 use Rattle.meaning.proofs.Numbers.{numbers-append, member-of-numbers, numbers-bounds}

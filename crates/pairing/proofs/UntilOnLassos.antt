@@ -8,7 +8,7 @@ use native.Mathlib.Nat.{le-of-suc-le-suc, not-suc-le-zero, le-refl, add-zero, ad
 use native.Mathlib.Decide.{decLe}
 use native.Mathlib.Omega.{arith}
 use borrow.Author.Tests.{not-true, ne-eqb}
-use Rattle.clauses.proofs.Satisfaction.{both-true, first-true, second-true, one-true, or-first, or-second, not-both, false-if-not-true, eqb-self}
+use Rattle.answers.proofs.Tests.{both-true, first-true, second-true, one-true, or-first, or-second, not-both, false-if-not-true, eqb-self}
 use Rattle.meaning.specs.Bounded.{after, looped, until-for}
 use Rattle.meaning.specs.LassoValue.{onward, until-over, release-over}
 

@@ -7,9 +7,9 @@ use Prim.Native.Nat.{ℕ, zero, suc, _+_, _*_, _<_, _≤_, suc-le-suc}
 use native.Mathlib.Nat.{not-suc-le-zero, le-of-suc-le-suc}
 use native.Mathlib.Omega.{arith}
 use lib.ListN.{length, getD, take, drop}
-use Rattle.clauses.specs.Lists.{numbers, all-of}
-use Rattle.clauses.proofs.Satisfaction.{not-both}
-use Rattle.clauses.proofs.Answers.{passing}
+use Rattle.answers.specs.Lists.{numbers, all-of}
+use Rattle.answers.proofs.Tests.{not-both}
+use Rattle.answers.proofs.Answers.{passing}
 use Rattle.meaning.specs.Problem.{Problem}
 use Rattle.meaning.specs.Runs.{Position, values, next-values, meets-constraints, run-from}
 use Rattle.meaning.specs.Formulas.{formula}

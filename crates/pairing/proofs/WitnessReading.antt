@@ -7,7 +7,7 @@ use native.Mathlib.Omega.{arith}
 use borrow.Author.Tests.{eqb-true}
 use lib.ListN.{length, getD}
 use lib.Seq.{ext-getD}
-use Rattle.clauses.proofs.Satisfaction.{eqb-self}
+use Rattle.answers.proofs.Tests.{eqb-self}
 use Rattle.meaning.specs.Problem.{Problem, W, latch-variable, latch, constraint}
 use Rattle.meaning.specs.Proper.{Proper}
 use Rattle.meaning.specs.Runs.{literal-value, next-values, meets-constraints, StartsRight}

@@ -10,17 +10,16 @@ use borrow.Author.Tests.{leb-true, le-leb, eqb-true}
 use lib.Dec.{leb, eqb}
 use lib.ListN.{length, getD}
 use lib.Seq.{ext-getD}
-use Rattle.clauses.specs.Lists.{numbers, numbered, all-of, joined}
-use Rattle.clauses.specs.Answers.{Check, check, first-failing, granted}
-use Rattle.clauses.proofs.Satisfaction.{both-true, first-true, second-true, eqb-self, all-of-numbered, all-of-map}
-use Rattle.clauses.proofs.Answers.{passing, refusing, first-failing-passed, first-failing-joined, all-pass-if-granted}
-use Rattle.meaning.specs.Answers.{bad-witness, against-reset, open-loop, constraint-broken}
+use Rattle.answers.specs.Lists.{numbers, numbered, all-of, joined}
+use Rattle.answers.specs.Answers.{Check, check, first-failing, granted, bad-witness, against-reset, open-loop}
+use Rattle.answers.proofs.Tests.{both-true, first-true, second-true, eqb-self, all-of-numbered, all-of-map}
+use Rattle.answers.proofs.Answers.{passing, refusing, first-failing-passed, first-failing-joined, all-pass-if-granted}
+use Rattle.meaning.specs.Witnesses.{constraint-broken, witness-length, byte, shape, first-latches, position, rows, Closes, Shows, Witness, byte-limit, byte-checks, reset-checks, loop-checks, position-checks}
 use Rattle.meaning.specs.Problem.{Problem, latch}
 use Rattle.meaning.specs.Runs.{next-values, meets-reset, meets-constraints, StartsRight}
 use Rattle.meaning.specs.Formulas.{formula}
 use Rattle.meaning.specs.Bounded.{Shape, prefix, lasso}
 use Rattle.meaning.specs.LassoValue.{bounded-value}
-use Rattle.meaning.specs.Witnesses.{witness-length, byte, shape, first-latches, position, rows, Closes, Shows, Witness, byte-limit, byte-checks, reset-checks, loop-checks, position-checks}
 use Rattle.meaning.specs.Calls.{witness-parts, judge-bytes}
 use Rattle.meaning.proofs.ItemByItem.{_and_, all-of-joined}
 use Rattle.meaning.proofs.Numbers.{all-of-numbers, all-of-numbers-if}

@@ -4,7 +4,7 @@ use mathlib.Core.List.{List, [], _∷_, _++_, map}
 use mathlib.Core.Path.{_≡_}
 use Prim.Native.Nat.{ℕ, suc, _≤_, _<_}
 use lib.ListN.{length}
-use Rattle.clauses.specs.Lists.{numbers, each}
+use Rattle.answers.specs.Lists.{numbers, each}
 use Rattle.clauses.specs.Clauses.{Assignment}
 use Rattle.meaning.specs.Problem.{Problem, W}
 use Rattle.meaning.specs.Cnf.{positions}

@@ -5,7 +5,7 @@ use mathlib.Core.Path.{_≡_}
 use Prim.Native.Nat.{ℕ, _+_, _-_, _≤_, _<_}
 use lib.IntN.{pos}
 use lib.ListN.{length}
-use Rattle.clauses.specs.Lists.{numbers, some-of}
+use Rattle.answers.specs.Lists.{numbers, some-of}
 use Rattle.clauses.specs.Clauses.{Assignment, literal-true}
 use Rattle.meaning.specs.Problem.{Problem, W, latch-variable, gate-variable, latch, gate, constraint, node}
 use Rattle.meaning.specs.Runs.{literal-value, gate-value, meets-reset}

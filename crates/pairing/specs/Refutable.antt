@@ -4,7 +4,7 @@ use mathlib.Core.List.{List}
 use Prim.Native.Nat.{ℕ, _≤_}
 use lib.IntN.{ℤ}
 use lib.ListN.{length}
-use Rattle.clauses.specs.Answers.{granted}
+use Rattle.answers.specs.Answers.{granted}
 use Rattle.clauses.specs.Refutations.{steps-of, numbers-area, clauses-area}
 use Rattle.clauses.specs.Refutable.{WordsFit}
 use Rattle.meaning.specs.Problem.{problem}

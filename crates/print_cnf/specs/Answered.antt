@@ -4,7 +4,7 @@ use Prim.Native.Nat.{ℕ}
 use lib.ListN.{take}
 use Rattle.reading.specs.declared.Reading.{Reading}
 use Rattle.reading.specs.declared.Reading.the-variants.{Bytes, Failed}
-use Rattle.meaning.specs.JobFile.{printed}
+use Rattle.job_file.specs.JobFile.{printed}
 
 -- By what was read of the input: the text of the job file, or no byte where a read failed.
 abbrev pub answered : Reading → List ℕ → List ℕ

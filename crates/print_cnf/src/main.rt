@@ -1,7 +1,7 @@
 // Reads a job file from standard input, and prints the text of its CNF or the line of its refusal.
 // Where standard input cannot be read it prints nothing, and says so on standard error.
-use job_file::job::JOB_LIMIT;
-use job_file::print::PROGRAM_ROOM;
+use answers::limits::JOB_LIMIT;
+use answers::limits::PROGRAM_ROOM;
 use job_file::print::print_job;
 use job_file::texts::Printed;
 use libc::STDERR_FILENO;
@@ -12,7 +12,7 @@ use reading::read_all;
 ghost use mathlib.Core.Path.{_≡_};
 ghost use Prim.Native.Nat.{_≤_};
 ghost use lib.ListN.{length, take};
-ghost use Rattle.meaning.specs.JobFile.{printed};
+ghost use Rattle.job_file.specs.JobFile.{printed};
 ghost use Rattle.reading.specs.Filled.{Within};
 ghost use Rattle.print_cnf.specs.Answered.{answered};
 

@@ -1,21 +1,21 @@
 -- Laws of what the parts of the check answer: checks one after another, parts one after another, and a loop over numbers. Assumes nothing.
 use mathlib.Core.Path.{_≡_, refl, sym, _∙_, ap}
 use mathlib.Core.Bool.{Bool, true, false}
-use mathlib.Core.List.{List, [], _∷_, _++_}
+use mathlib.Core.List.{List, [], _∷_, _++_, map}
 use Prim.Native.Nat.{ℕ, suc, _+_, _-_, _≤_, _<_}
 use native.Mathlib.Numerals.{add-one}
 use native.Mathlib.Omega.{arith}
 use denote.Enum.Declared.{tagOf}
-use Rattle.clauses.specs.Lists.{numbers, each}
-use Rattle.clauses.specs.Answers.{Answer, Check, check, first-failing-part}
-use Rattle.clauses.proofs.Answers.{first-failing-append, parts-append}
+use Rattle.answers.specs.Lists.{numbers, each}
+use Rattle.answers.specs.Answers.{Answer, Check, check, first-failing, first-failing-part}
+use Rattle.answers.proofs.Answers.{first-failing-append, parts-append}
 use Rattle.meaning.specs.Check.{each-below}
 use Rattle.problem.specs.declared.Refusal.{Refusal}
-use Rattle.problem.specs.declared.check.PartAnswer.{PartAnswer}
-use Rattle.problem.specs.declared.check.PartAnswer.the-variants.{Passed, Refused}
+use Rattle.problem.specs.declared.parts.PartAnswer.{PartAnswer}
+use Rattle.problem.specs.declared.parts.PartAnswer.the-variants.{Passed, Refused}
 use Rattle.problem.specs.Promise.{refusal-answer}
 use Rattle.problem.specs.CheckParts.{Answers}
-use Rattle.problem.proofs.check.PartAnswer.{the-type}
+use Rattle.problem.proofs.parts.PartAnswer.{the-type}
 
 -- The code goes by the number of the variant: 0 is a pass.
 pub is-passed : (r : PartAnswer) → tagOf the-type r ≡ 0 → r ≡ Passed
@@ -55,9 +55,22 @@ module _ (xs ys : List (List Check)) where
   pub refused-first : {f : Refusal} → Answers xs (Refused f) → Answers (xs ++ ys) (Refused f)
   refused-first a = record { answered = λ after. a .answered (first-failing-part ys after) ∙ sym (parts-append xs ys after) }
 
+  -- .. by the number of the variant.
+  pub refused-stands : (r : PartAnswer) → tagOf the-type r ≡ 1 → Answers xs r → Answers (xs ++ ys) r
+  refused-stands Passed e a = absurd (omega arith)
+  refused-stands (Refused f) e a = refused-first a
+
 -- Two parts as one.
 pub one-part : (xs ys : List Check) {r : PartAnswer} → Answers (xs ∷ ys ∷ []) r → Answers ((xs ++ ys) ∷ []) r
 one-part xs ys a = record { answered = λ after. a .answered after ∙ sym (first-failing-append xs ys after) }
+
+-- Checks, each of them a part, as one.
+each-alone : (cs : List Check) (after : Answer) → first-failing-part (map (λ (c : Check). c ∷ []) cs) after ≡ first-failing cs after
+each-alone [] after = refl
+each-alone (c ∷ cs) after = rw (each-alone cs after)
+
+pub as-one : (cs : List Check) {r : PartAnswer} → Answers (map (λ (c : Check). c ∷ []) cs) r → Answers (cs ∷ []) r
+as-one cs a = record { answered = λ after. a .answered after ∙ each-alone cs after }
 
 -- ════════ A loop over numbers ════════
 

@@ -8,14 +8,14 @@ use native.Mathlib.Omega.{arith}
 use lib.Dec.{ltb}
 use lib.ListN.{length, take, length-append, length-take}
 use lib.Seq.{take-suc, take-all}
-use Rattle.clauses.specs.Lists.{those}
-use Rattle.clauses.proofs.Satisfaction.{those-few, those-append}
+use Rattle.answers.specs.Lists.{those}
+use Rattle.answers.proofs.Tests.{those-few, those-append}
 use Rattle.meaning.specs.Problem.{Problem, Outline, Latch, Node, atom, latch, node}
 use Rattle.meaning.proofs.ClosedForms.{fixed-resets, has-equal-form, has-or-form, has-until-form}
-use Rattle.problem.specs.declared.check.Kind.{Kind}
-use Rattle.problem.specs.declared.check.Kind.the-variants as Kind
+use Rattle.problem.specs.declared.kinds.Kind.{Kind}
+use Rattle.problem.specs.declared.kinds.Kind.the-variants as Kind
 use Rattle.problem.specs.declared.count.Seen.{Seen}
-use Rattle.problem.specs.CheckParts.{count-of}
+use Rattle.problem.specs.Kinds.{count-of}
 use Rattle.problem.specs.Walks.{FormsOf, FewForms, Added, SeenTo}
 
 module _ {A : Type 0} (t : A → Bool) where

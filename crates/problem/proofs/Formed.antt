@@ -2,16 +2,16 @@
 use mathlib.Core.Path.{_≡_, refl, sym, _∙_, ap}
 use mathlib.Core.Bool.{Bool, true, false}
 use mathlib.Core.List.{List, [], _∷_}
-use Prim.Native.Nat.{ℕ, _+_}
+use Prim.Native.Nat.{ℕ}
 use native.Mathlib.Omega.{arith}
-use Rattle.clauses.specs.Lists.{all-of, joined}
-use Rattle.clauses.specs.Answers.{Answer, Check, first-failing, granted}
-use Rattle.clauses.proofs.Answers.{passing, first-failing-joined, number-of, place-of}
+use Rattle.answers.specs.Lists.{all-of, joined}
+use Rattle.answers.specs.Answers.{Answer, Check, first-failing, granted}
+use Rattle.answers.proofs.Answers.{passing, first-failing-joined, number-of, place-of}
 use Rattle.meaning.specs.Problem as problems
-use Rattle.meaning.specs.Problem.{outline, problem-by, problem}
+use Rattle.meaning.specs.Problem.{outline, children, problem-by, problem}
 use Rattle.meaning.specs.Check.{header-checks, limit-checks}
 use Rattle.meaning.specs.Proper.{InLimits}
-use Rattle.meaning.specs.Calls.{WellFormed, outline-parts, check-problem}
+use Rattle.meaning.specs.Calls.{WellFormed, outline-parts-with, check-problem}
 use Rattle.meaning.proofs.ItemByItem.{all-of-joined}
 use Rattle.meaning.proofs.Check.{first-failing-refused, in-limits-if-pass, problem-checked, not-well-formed, proper-if-well-formed, width-of-words}
 use Rattle.counts.specs.declared.Counts.{Counts}
@@ -21,10 +21,10 @@ use Rattle.problem.specs.declared.ProblemRecord.{ProblemRecord}
 use Rattle.problem.specs.declared.Refusal.{Refusal}
 use Rattle.problem.specs.declared.Checked.{Checked}
 use Rattle.problem.specs.declared.Checked.the-variants as Checked
-use Rattle.problem.specs.declared.check.PartAnswer.{PartAnswer}
-use Rattle.problem.specs.declared.check.PartAnswer.the-variants.{Passed, Refused}
+use Rattle.problem.specs.declared.parts.PartAnswer.{PartAnswer}
+use Rattle.problem.specs.declared.parts.PartAnswer.the-variants.{Passed, Refused}
 use Rattle.problem.specs.Promise.{refusal-answer, outline-of, problem-in, ProperIn, CountedIn, Outlined, CheckedAs}
-use Rattle.problem.specs.CheckParts.{Answers, Fitting}
+use Rattle.problem.specs.CheckParts.{Answers}
 use Rattle.problem.proofs.Unique.{refusal-not-yes}
 use Rattle.problem.proofs.Answered.{passed-first, refused-first}
 
@@ -48,7 +48,7 @@ passes-if-handed-on cs hands-on = go (all-of passing cs) refl
         let same = hands-on (granted 0) ∙ first-failing-refused cs (granted 0) (granted 1) e ∙ sym (hands-on (granted 1)) in
         absurd (let places = place-of same in omega arith)
 
-parts-by : (ws : List ℕ) {o o′ : problems.Outline} {r : PartAnswer} → o ≡ o′ → Answers (outline-parts o ws) r → Answers (outline-parts o′ ws) r
+parts-by : (ws : List ℕ) {o o′ : problems.Outline} {r : PartAnswer} → o ≡ o′ → Answers (outline-parts-with children o ws) r → Answers (outline-parts-with children o′ ws) r
 parts-by ws e a = rw e at a
 
 -- The parts before the outline: the header and its limits.
@@ -61,33 +61,26 @@ module _ (version : ℕ) (ws : List ℕ) where
       let all = passes-if-handed-on (joined (opening version ws)) (λ after. a .answered after ∙ first-failing-joined (opening version ws) after) in
       in-limits-if-pass version ws (all-of-joined passing (opening version ws) .0 all .1 .0)
 
-  pub fitting : {s : Outline} → Answers (opening version ws) Passed → outline-of s ≡ outline version ws → Fitting s
-  fitting {s} a e = record {
-    in-limits = rw e (in-limits-if-passed a);
-    width-is = built e;
-  }
-    where
-      built : outline-of s ≡ outline version ws → s .width ≡ s .inputs + s .latches + s .gates
-      built e =
-          ap (λ o. o .width) e
-          ∙ sym (ap (λ o. o .inputs + o .latches + o .gates) e)
+  -- The nodes of the formula are those of the words.
+  pub nodes-as-written : {s : Outline} → outline-of s ≡ outline version ws → s .«formula_nodes» ≡ s .«written_nodes»
+  nodes-as-written e = ap (λ o. o .formula-nodes) e ∙ sym (ap (λ o. o .written-nodes) e)
 
   -- ════════ The whole ════════
 
   pub refused-by-opening : {f : Refusal} → Answers (opening version ws) (Refused f) → CheckedAs version ws (Checked.Refused f)
   unfolding check-problem
-  refused-by-opening a = record { answered = refused-first (opening version ws) (outline-parts (outline version ws) ws) a .answered (granted 0); outlined = tt; counted = tt }
+  refused-by-opening a = record { answered = refused-first (opening version ws) (outline-parts-with children (outline version ws) ws) a .answered (granted 0); outlined = tt; counted = tt }
 
   module _ {s : Outline} (passed : Answers (opening version ws) Passed) (is : outline-of s ≡ outline version ws) where
-    all : {r : PartAnswer} → Answers (outline-parts (outline-of s) ws) r → Answers (header-checks version ws ∷ limit-checks version ws ∷ outline-parts (outline version ws) ws) r
-    all b = passed-first (opening version ws) (outline-parts (outline version ws) ws) passed (parts-by ws is b)
+    all : {r : PartAnswer} → Answers (outline-parts-with children (outline-of s) ws) r → Answers (header-checks version ws ∷ limit-checks version ws ∷ outline-parts-with children (outline version ws) ws) r
+    all b = passed-first (opening version ws) (outline-parts-with children (outline version ws) ws) passed (parts-by ws is b)
 
-    pub refused-by-parts : {f : Refusal} → Answers (outline-parts (outline-of s) ws) (Refused f) → CheckedAs version ws (Checked.Refused f)
+    pub refused-by-parts : {f : Refusal} → Answers (outline-parts-with children (outline-of s) ws) (Refused f) → CheckedAs version ws (Checked.Refused f)
     unfolding check-problem
     refused-by-parts b = record { answered = all b .answered (granted 0); outlined = tt; counted = tt }
 
     -- Where all parts pass, the outline shows a proper problem, that of the version and the words.
-    module _ (parts : Answers (outline-parts (outline-of s) ws) Passed) where
+    module _ (parts : Answers (outline-parts-with children (outline-of s) ws) Passed) where
       formed : WellFormed version ws
       unfolding check-problem
       formed = sym (all parts .answered (granted 0))

@@ -4,9 +4,9 @@ use mathlib.Core.List.{List, [], _∷_}
 use Prim.Native.Nat.{ℕ}
 use lib.ListN.{getD}
 use denote.Enum.Declared.{tagOf}
-use Rattle.problem.specs.declared.check.Kind.{Kind}
-use Rattle.problem.specs.declared.check.Kind.the-variants.{Latch, Gate, Constraint, Node}
-use Rattle.problem.proofs.check.Kind.{the-type}
+use Rattle.problem.specs.declared.kinds.Kind.{Kind}
+use Rattle.problem.specs.declared.kinds.Kind.the-variants.{Latch, Gate, Constraint, Node}
+use Rattle.problem.proofs.kinds.Kind.{the-type}
 
 abbrev kinds : List Kind
 kinds = Latch ∷ Gate ∷ Constraint ∷ Node ∷ []

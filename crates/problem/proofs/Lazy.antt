@@ -3,9 +3,9 @@ use mathlib.Core.Path.{_≡_, refl, sym, _∙_}
 use mathlib.Core.List.{List, [], _∷_}
 use Prim.Native.Nat.{ℕ}
 use native.Mathlib.Omega.{arith}
-use Rattle.clauses.specs.Answers.{Answer}
-use Rattle.clauses.proofs.Answers.{number-of, place-of}
-use Rattle.meaning.specs.Limits.{inputs-limit, latches-limit, gates-limit, nodes-limit, bound-limit, constraints-limit}
+use Rattle.answers.specs.Answers.{Answer}
+use Rattle.answers.proofs.Answers.{number-of, place-of}
+use Rattle.answers.specs.Limits.{inputs-limit, latches-limit, gates-limit, nodes-limit, bound-limit, constraints-limit}
 use Rattle.meaning.specs.Problem.{header-words, problem-by, problem}
 use Rattle.meaning.specs.Cases.{T-words, H}
 use Rattle.meaning.specs.Cnf.{variables, cnf, cnf-words}
@@ -72,7 +72,8 @@ T-outline = record {
   latches = 1;
   gates = 0;
   constraints = 0;
-  nodes = 1;
+  «written_nodes» = 1;
+  «formula_nodes» = 1;
   bound = 0;
   width = 1;
   «latches_from» = 5;
@@ -111,7 +112,8 @@ H-release =
         latches = 2;
         gates = 4;
         constraints = 0;
-        nodes = 3;
+        «written_nodes» = 3;
+        «formula_nodes» = 3;
         bound = 3;
         width = 6;
         «latches_from» = 5;
@@ -172,6 +174,10 @@ both-itself = bad (0 ∷ 0 ∷ 0 ∷ 2 ∷ 0 ∷ 0 ∷ 0 ∷ 0 ∷ 1 ∷ 0 ∷ 1
 abbrev pub G-of-two : Input
 G-of-two = bad (0 ∷ 0 ∷ 0 ∷ 3 ∷ 0 ∷ 0 ∷ 0 ∷ 0 ∷ 0 ∷ 0 ∷ 0 ∷ 5 ∷ 0 ∷ 1 ∷ []) (BadNode 13)
 
+-- 0 1 0 1 0, 3 0, 5 2 0: G of node 2, which is not there; as an atom's literal 2 would be right
+abbrev pub G-of-none : Input
+G-of-none = bad (T-with 3 0 5 2 0) (BadNode 8)
+
 -- 0 0 1 1 0, 2 0, 0 0 0: the gate is variable 1, and its left literal 2
 abbrev pub left-itself : Input
 left-itself = bad (0 ∷ 0 ∷ 1 ∷ 1 ∷ 0 ∷ 2 ∷ 0 ∷ 0 ∷ 0 ∷ 0 ∷ []) (BadLiteral 5)
@@ -209,6 +215,10 @@ module _ (g : ProblemRecord) where
   pub G-with-two-children-breaks : Breaks G-of-two (Good g)
   unfolding laid-down
   G-with-two-children-breaks = other-number G-of-two (Good g) refl (λ e. omega arith)
+
+  pub G-without-a-child-breaks : Breaks G-of-none (Good g)
+  unfolding laid-down
+  G-without-a-child-breaks = other-number G-of-none (Good g) refl (λ e. omega arith)
 
   pub node-is-its-own-child-breaks : Breaks T-itself (Good g)
   unfolding laid-down

@@ -4,7 +4,7 @@ use mathlib.Core.List.{List, [], _∷_, _++_}
 use Prim.Native.Nat.{ℕ, _+_}
 use native.Mathlib.Omega.{arith}
 use lib.ListN.{replicate}
-use Rattle.meaning.specs.Limits.{constraints-limit}
+use Rattle.answers.specs.Limits.{constraints-limit}
 use Rattle.meaning.specs.Problem.{header-words, problem-by, problem}
 use Rattle.meaning.specs.Cases.{T-constrained}
 use Rattle.meaning.specs.Cnf.{variables, cnf, cnf-words}
@@ -36,7 +36,8 @@ outline-with d = record {
   latches = 1;
   gates = 0;
   constraints = d;
-  nodes = 1;
+  «written_nodes» = 1;
+  «formula_nodes» = 1;
   bound = 0;
   width = 1;
   «latches_from» = 6;

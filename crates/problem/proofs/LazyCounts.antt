@@ -6,8 +6,8 @@ use Prim.Native.Nat.{ℕ, suc, _+_, _*_, _-_, _%_, _^_, _≤_, _<_}
 use native.Mathlib.Nat.{one-le-mul, add-mul, mul-suc, mul-le-mul, mul-le-mul-left, mul-le-mul-right}
 use native.Mathlib.Omega.{arith}
 use lib.ListN.{length}
-use Rattle.clauses.specs.Lists.{sum}
-use Rattle.meaning.specs.Limits.{inputs-limit, latches-limit, gates-limit, nodes-limit, bound-limit}
+use Rattle.answers.specs.Lists.{sum}
+use Rattle.answers.specs.Limits.{inputs-limit, latches-limit, gates-limit, nodes-limit, bound-limit}
 use Rattle.meaning.specs.Problem.{Problem, header-words, problem-by, problem}
 use Rattle.meaning.specs.Cases.{limit-words}
 use Rattle.meaning.specs.Cnf.{variables, cnf, cnf-words}
@@ -157,7 +157,8 @@ T-longer =
         latches = 1;
         gates = 0;
         constraints = 0;
-        nodes = 1;
+        «written_nodes» = 1;
+        «formula_nodes» = 1;
         bound = 1;
         width = 1;
         «latches_from» = 5;
@@ -179,7 +180,8 @@ limits-outline = record {
   latches = latches-limit;
   gates = gates-limit;
   constraints = 0;
-  nodes = nodes-limit;
+  «written_nodes» = nodes-limit;
+  «formula_nodes» = nodes-limit;
   bound = bound-limit;
   width = inputs-limit + latches-limit + gates-limit;
   «latches_from» = 5;

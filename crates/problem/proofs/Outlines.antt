@@ -4,7 +4,7 @@ use mathlib.Core.List.{List}
 use Prim.Native.Nat.{ℕ, _+_, _≤_, _<_}
 use native.Mathlib.Omega.{arith}
 use lib.ListN.{length}
-use Rattle.meaning.specs.Limits.{inputs-limit, latches-limit, gates-limit, bound-limit}
+use Rattle.answers.specs.Limits.{inputs-limit, latches-limit, gates-limit, bound-limit}
 use Rattle.meaning.specs.Problem.{Problem, Latch, Gate, atom, latch, gate, constraint, node, word, latch-place, gate-place, constraint-place, read-node}
 use Rattle.meaning.proofs.ShownBy.{inputs-by, bound-by, latches-by, gates-by, constraints-by, nodes-by, latch-by, gate-by, constraint-by, node-by, latch-past, gate-past, constraint-past, node-past}
 use Rattle.problem.specs.declared.Outline.{Outline}
@@ -16,7 +16,7 @@ pub record Shows (s : Outline) (p : Problem) : Type 0 where
   pub latches-are : length (p .latches) ≡ s .latches
   pub gates-are : length (p .gates) ≡ s .gates
   pub constraints-are : length (p .constraints) ≡ s .constraints
-  pub nodes-are : length (p .nodes) ≡ s .nodes
+  pub nodes-are : length (p .nodes) ≡ s .«formula_nodes»
   pub bound-is : p .bound ≡ s .bound
 
 module _ (s : Outline) (ws : List ℕ) where
@@ -54,7 +54,7 @@ module _ (s : Outline) (ws : List ℕ) where
   unfolding problem-in
   constraint-read c l = sym (constraint-by (outline-of s) ws c l)
 
-  pub node-words-read : (n : ℕ) → n < s .nodes → read-node (outline-of s) ws n ≡ node (problem-in s ws) n
+  pub node-words-read : (n : ℕ) → n < s .«formula_nodes» → read-node (outline-of s) ws n ≡ node (problem-in s ws) n
   unfolding problem-in
   node-words-read n l = sym (node-by (outline-of s) ws n l)
 
@@ -81,7 +81,7 @@ module _ (s : Outline) (ws : List ℕ) where
   unfolding problem-in
   constraints-past c l = constraint-past (outline-of s) ws c l
 
-  pub nodes-past : (n : ℕ) → s .nodes ≤ n → node (problem-in s ws) n ≡ atom 0
+  pub nodes-past : (n : ℕ) → s .«formula_nodes» ≤ n → node (problem-in s ws) n ≡ atom 0
   unfolding problem-in
   nodes-past n l = node-past (outline-of s) ws n l
 
@@ -90,7 +90,7 @@ module _ {s : Outline} {ws : List ℕ} (good : ProperIn s ws) where
   pub bound-small : s .bound ≤ bound-limit
   bound-small = rw (shows s ws .bound-is) at (good .proper .bound-within)
 
-  pub nodes-some : 1 ≤ s .nodes
+  pub nodes-some : 1 ≤ s .«formula_nodes»
   nodes-some = rw (shows s ws .nodes-are) at (good .proper .nodes-some)
 
   pub width-small : s .width ≤ inputs-limit + latches-limit + gates-limit

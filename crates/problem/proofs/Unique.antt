@@ -1,12 +1,13 @@
 -- Each promise decides its answer: two answers that meet it are equal. The other readers' promises are equations already.
 -- Assumes nothing.
 use mathlib.Core.Path.{_≡_, refl, sym, _∙_, ap}
-use mathlib.Core.List.{List, [], _∷_}
+use mathlib.Core.Bool.{false}
+use mathlib.Core.List.{List, [], _∷_, _++_}
 use Prim.Native.Nat.{ℕ}
 use native.Mathlib.Omega.{arith}
 use lib.ListN.{getD}
-use Rattle.clauses.specs.Answers.{Answer}
-use Rattle.clauses.proofs.Answers.{number-of}
+use Rattle.answers.specs.Answers.{Answer, Check, check, granted}
+use Rattle.answers.proofs.Answers.{number-of}
 use Rattle.meaning.specs.Problem as problems
 use Rattle.problem.specs.declared.Outline.{Outline}
 use Rattle.problem.specs.declared.ProblemRecord.{ProblemRecord}
@@ -14,11 +15,14 @@ use Rattle.problem.specs.declared.Refusal.{Refusal}
 use Rattle.problem.specs.declared.Refusal.the-variants.{BadVersion, BadLength, OutsideLimits, BadReset, BadLiteral, BadNode}
 use Rattle.problem.specs.declared.Checked.{Checked}
 use Rattle.problem.specs.declared.Checked.the-variants.{Good, Refused}
+use Rattle.problem.specs.declared.parts.PartAnswer.{PartAnswer}
+use Rattle.problem.specs.declared.parts.PartAnswer.the-variants as parts
 use Rattle.problem.specs.declared.Left.{Left}
 use Rattle.problem.specs.declared.Left.the-variants.{Constant, Child}
 use Rattle.problem.specs.declared.Node.{Node}
 use Rattle.problem.specs.declared.Node.the-variants.{Atom, Both, Either, Next, Until, Release}
 use Rattle.problem.specs.Promise.{refusal-answer, answer-of, outline-of, CheckedAs, left-of, node-read}
+use Rattle.problem.specs.CheckParts.{answer-then, Answers, Joined}
 
 -- ════════ The refusals ════════
 
@@ -49,6 +53,33 @@ refusal-not-yes (BadReset i) e = omega arith
 refusal-not-yes (BadLiteral i) e = omega arith
 refusal-not-yes (BadNode i) e = omega arith
 
+-- ════════ The parts of a check ════════
+
+-- Two answers that hand on, or refuse, whatever comes after, are one.
+same-part : (r r′ : PartAnswer) → ((after : Answer) → answer-then r after ≡ answer-then r′ after) → r ≡ r′
+same-part parts.Passed parts.Passed e = refl
+same-part parts.Passed (parts.Refused f) e = absurd (refusal-not-yes f (number-of (sym (e (granted 0)))))
+same-part (parts.Refused f) parts.Passed e = absurd (refusal-not-yes f (number-of (e (granted 0))))
+same-part (parts.Refused f) (parts.Refused f′) e = ap parts.Refused (refusal-unique f f′ (e (granted 0)))
+
+pub answers-unique : {ps : List (List Check)} (r r′ : PartAnswer) → Answers ps r → Answers ps r′ → r ≡ r′
+answers-unique r r′ a a′ = same-part r r′ (λ after. a .answered after ∙ sym (a′ .answered after))
+
+-- Every answer is that to some parts, so two parts joined have one answer.
+abbrev parts-of : PartAnswer → List (List Check)
+parts-of parts.Passed = []
+parts-of (parts.Refused f) = (check false (refusal-answer f) ∷ []) ∷ []
+
+answers-of : (r : PartAnswer) → Answers (parts-of r) r
+answers-of parts.Passed = record { answered = λ after. refl }
+answers-of (parts.Refused f) = record { answered = λ after. refl }
+
+pub joined-unique : (first second r r′ : PartAnswer) → Joined first second r → Joined first second r′ → r ≡ r′
+joined-unique first second r r′ j j′ =
+    answers-unique {ps = parts-of first ++ parts-of second} r r′
+    (j .answers (parts-of first) (parts-of second) (answers-of first) (answers-of second))
+    (j′ .answers (parts-of first) (parts-of second) (answers-of first) (answers-of second))
+
 -- ════════ The check ════════
 
 -- Document 01's outline as the crate's.
@@ -58,7 +89,8 @@ outline-back o = record {
   latches = o .latches;
   gates = o .gates;
   constraints = o .constraints;
-  nodes = o .nodes;
+  «written_nodes» = o .written-nodes;
+  «formula_nodes» = o .formula-nodes;
   bound = o .bound;
   width = o .width;
   «latches_from» = o .latches-from;

@@ -2,8 +2,7 @@
 use mathlib.Core.List.{List}
 use mathlib.Core.Path.{_≡_}
 use Prim.Native.Nat.{ℕ}
-use Rattle.clauses.specs.Answers.{Answer, granted}
-use Rattle.meaning.specs.Answers.{bad-length, outside-limits, bad-reset, bad-literal, bad-node, bad-job}
+use Rattle.answers.specs.Answers.{Answer, granted, bad-length, outside-limits, bad-reset, bad-literal, bad-node, bad-job}
 use Rattle.meaning.specs.Problem as problems
 use Rattle.meaning.specs.Problem.{Problem, W, outline, problem-by, problem}
 use Rattle.meaning.specs.Proper.{Proper}
@@ -42,7 +41,8 @@ outline-of s = record {
   latches = s .latches;
   gates = s .gates;
   constraints = s .constraints;
-  nodes = s .nodes;
+  written-nodes = s .«written_nodes»;
+  formula-nodes = s .«formula_nodes»;
   bound = s .bound;
   width = s .width;
   latches-from = s .«latches_from»;

@@ -3,20 +3,21 @@ use mathlib.Core.Path.{_≡_}
 use mathlib.Core.List.{List, [], _∷_, _++_}
 use Prim.Native.Nat.{ℕ, _+_, _^_, _<_}
 use lib.ListN.{length, take}
-use Rattle.clauses.specs.Lists.{those}
+use Rattle.answers.specs.Lists.{those}
 use Rattle.meaning.specs.Problem.{Problem, Node}
 use Rattle.meaning.specs.Check.{each-below}
-use Rattle.meaning.specs.Calls.{outline-parts}
+use Rattle.meaning.specs.Calls.{outline-parts-with}
 use Rattle.meaning.proofs.ClosedForms as forms
 use Rattle.meaning.proofs.ClosedForms.{fixed-resets, has-equal-form, has-or-form, has-until-form}
 use Rattle.problem.specs.declared.Outline.{Outline}
-use Rattle.problem.specs.declared.check.Kind.{Kind}
-use Rattle.problem.specs.declared.check.Kind.the-variants as kinds
-use Rattle.problem.specs.declared.check.PartAnswer.the-variants.{Passed}
+use Rattle.problem.specs.declared.kinds.Kind.{Kind}
+use Rattle.problem.specs.declared.kinds.Kind.the-variants as kinds
+use Rattle.problem.specs.declared.parts.PartAnswer.the-variants.{Passed}
 use Rattle.problem.specs.declared.check.Walked.{Walked}
 use Rattle.problem.specs.declared.count.Seen.{Seen}
 use Rattle.problem.specs.Promise.{outline-of, problem-in}
-use Rattle.problem.specs.CheckParts.{Answers, count-of, checks-of}
+use Rattle.problem.specs.CheckParts.{Answers}
+use Rattle.problem.specs.Kinds.{count-of, checks-of}
 
 -- ════════ What is counted ════════
 
@@ -65,12 +66,12 @@ tally-with s f = record {
 
 -- ════════ The walks ════════
 
--- All of a kind: what the checks answer, and where they pass what was counted.
-pub record AllWalked (kind : Kind) (s : Outline) (ws : List ℕ) (r : Walked) : Type 0 where
-  pub answers : Answers (each-below (count-of kind (outline-of s)) (checks-of kind (outline-of s) ws) ∷ []) (r .answer)
+-- All of a kind, by a table of the ops that there are: what the checks answer, and where they pass what was counted.
+pub record AllWalked (table : List ℕ) (kind : Kind) (s : Outline) (ws : List ℕ) (r : Walked) : Type 0 where
+  pub answers : Answers (each-below (count-of kind (outline-of s)) (checks-of table kind (outline-of s) ws) ∷ []) (r .answer)
   pub counted : r .answer ≡ Passed → SeenTo kind (problem-in s ws) (count-of kind (outline-of s)) (r .seen)
 
 -- All the parts that the outline tells of.
-pub record PartsWalked (s : Outline) (ws : List ℕ) (r : Walked) : Type 0 where
-  pub answers : Answers (outline-parts (outline-of s) ws) (r .answer)
+pub record PartsWalked (table : List ℕ) (s : Outline) (ws : List ℕ) (r : Walked) : Type 0 where
+  pub answers : Answers (outline-parts-with table (outline-of s) ws) (r .answer)
   pub counted : r .answer ≡ Passed → SeenIn (problem-in s ws) (r .seen)

@@ -15,61 +15,35 @@ use crate::header::NODES;
 use crate::header::header_word;
 use crate::header::header_words;
 use crate::header::outline;
-use crate::limits::BOUND_LIMIT;
-use crate::limits::CONSTRAINTS_LIMIT;
-use crate::limits::GATES_LIMIT;
-use crate::limits::INPUTS_LIMIT;
-use crate::limits::LATCHES_LIMIT;
-use crate::limits::NODES_LIMIT;
-use crate::read::constraint_place;
-use crate::read::gate_place;
-use crate::read::latch_place;
+use crate::kinds::Kind;
+use crate::kinds::number_of;
+use crate::parts::CHILDREN;
+use crate::parts::PartAnswer;
+use crate::parts::constraint;
+use crate::parts::gate;
+use crate::parts::latch;
+use crate::parts::limit;
+use crate::parts::node;
+use crate::parts::then;
 use crate::read::node_place;
-use crate::read::word_at;
+use answers::limits::BOUND_LIMIT;
+use answers::limits::CONSTRAINTS_LIMIT;
+use answers::limits::GATES_LIMIT;
+use answers::limits::INPUTS_LIMIT;
+use answers::limits::LATCHES_LIMIT;
+use answers::limits::NODES_LIMIT;
 ghost use mathlib.Core.Path.{_≡_};
 ghost use mathlib.Core.List.{[], _∷_};
-ghost use Prim.Native.Nat.{_<_};
-ghost use Rattle.meaning.specs.Check.{header-checks, limit-check, constraints-check, limit-checks, length-checks, latch-checks, gate-checks, constraint-checks, node-checks, first-right, second-right};
+ghost use Rattle.meaning.specs.Check.{header-checks, constraints-check, limit-checks, length-checks};
 ghost use Rattle.problem.specs.Promise.{CheckedAs, outline-of};
-ghost use Rattle.problem.specs.CheckParts.{Answers, Joined, Fitting, count-of, checks-of};
+ghost use Rattle.problem.specs.CheckParts.{Answers};
+ghost use Rattle.problem.specs.Kinds.{checks-of};
 ghost use Rattle.problem.specs.Walks.{AllWalked, PartsWalked};
-
-// "reset over 2" is refused.
-const LARGEST_RESET: u32 = 2;
-
-// "How many children each op has stands in one fixed table."
-const OPS: usize = 8;
-
-const CHILDREN: [u32; OPS] = [0, 2, 2, 1, 1, 1, 2, 2];
-
-// What a part of the check answers.
-pub(crate) enum PartAnswer {
-    Passed,
-    Refused(Refusal),
-}
-
-// What is checked one by one.
-pub(crate) enum Kind {
-    Latch,
-    Gate,
-    Constraint,
-    Node,
-}
 
 // What a walk answers, and what was counted on the way.
 pub(crate) struct Walked {
     answer: PartAnswer,
     seen: Seen,
-}
-
-// Two parts one after the other: the first that refuses gives the answer.
-fn then(first: PartAnswer, second: PartAnswer) -> PartAnswer
-    ensures { λ r. ⌜ Joined first second r ⌝ }
-{
-    match first {
-        PartAnswer::Passed => second,
-        PartAnswer::Refused(f) => PartAnswer::Refused(f),
-    }
 }
 
 // The version is known, and the words of its header are there.
@@ -82,20 +56,6 @@ fn header(version: u32, words: &[u32]) -> PartAnswer
     }
     if words.len() < (size as usize) {
         return PartAnswer::Refused(Refusal::BadLength(words.len()));
-    }
-    PartAnswer::Passed
-}
-
-// The header's word at a place is within its limits.
-fn limit(words: &[u32], at: usize, least: u32, most: u32) -> PartAnswer
-    ensures { λ r. ⌜ Answers ((limit-check (now (words .entry)) at least most ∷ []) ∷ []) r ⌝ }
-{
-    let size = word_at(words, at);
-    if size < least {
-        return PartAnswer::Refused(Refusal::OutsideLimits(at));
-    }
-    if most < size {
-        return PartAnswer::Refused(Refusal::OutsideLimits(at));
     }
     PartAnswer::Passed
 }
@@ -126,119 +86,30 @@ fn limits(version: u32, words: &[u32]) -> PartAnswer
 fn length(words: &[u32], s: Outline) -> PartAnswer
     ensures { λ r. ⌜ Answers (length-checks (outline-of s) (now (words .entry)) ∷ []) r ⌝ }
 {
-    if words.len() != node_place(s, s.nodes) {
+    if words.len() != node_place(s, s.written_nodes) {
         return PartAnswer::Refused(Refusal::BadLength(words.len()));
     }
     PartAnswer::Passed
 }
 
-fn latch(words: &[u32], s: Outline, i: u32) -> PartAnswer
-    requires { ⌜ Fitting s ⌝ }
-    ensures { λ r. ⌜ Answers (latch-checks (outline-of s) (now (words .entry)) i ∷ []) r ⌝ }
-{
-    let at = latch_place(s, i);
-    if 2 * s.width + 1 < word_at(words, at) {
-        return PartAnswer::Refused(Refusal::BadLiteral(at));
-    }
-    if LARGEST_RESET < word_at(words, at + 1) {
-        return PartAnswer::Refused(Refusal::BadReset(at + 1));
-    }
-    PartAnswer::Passed
-}
-
-fn gate(words: &[u32], s: Outline, j: u32) -> PartAnswer
-    requires { ⌜ Fitting s × (j < s .gates) ⌝ }
-    ensures { λ r. ⌜ Answers (gate-checks (outline-of s) (now (words .entry)) j ∷ []) r ⌝ }
-{
-    let at = gate_place(s, j);
-    let limit = 2 * (s.inputs + s.latches + j + 1);
-    if limit <= word_at(words, at) {
-        return PartAnswer::Refused(Refusal::BadLiteral(at));
-    }
-    if limit <= word_at(words, at + 1) {
-        return PartAnswer::Refused(Refusal::BadLiteral(at + 1));
-    }
-    PartAnswer::Passed
-}
-
-fn constraint(words: &[u32], s: Outline, c: u32) -> PartAnswer
-    requires { ⌜ Fitting s ⌝ }
-    ensures { λ r. ⌜ Answers (constraint-checks (outline-of s) (now (words .entry)) c ∷ []) r ⌝ }
-{
-    let at = constraint_place(s, c);
-    if 2 * s.width + 1 < word_at(words, at) {
-        return PartAnswer::Refused(Refusal::BadLiteral(at));
-    }
-    PartAnswer::Passed
-}
-
-// The word a of a node: an atom's literal, or an earlier node.
-fn first_word(s: Outline, n: u32, children: u32, a: u32) -> bool
-    requires { ⌜ Fitting s ⌝ }
-    ensures { λ r. ⌜ r ≡ first-right (outline-of s) n children a ⌝ }
-{
-    if children == 0 {
-        a <= 2 * s.width + 1
-    } else {
-        a < n
-    }
-}
-
-// The word b: an earlier node where there is a second child, else 0.
-fn second_word(n: u32, children: u32, b: u32) -> bool
-    ensures { λ r. ⌜ r ≡ second-right n children b ⌝ }
-{
-    if children < 2 { b == 0 } else { b < n }
-}
-
-fn node(words: &[u32], s: Outline, n: u32) -> PartAnswer
-    requires { ⌜ Fitting s ⌝ }
-    ensures { λ r. ⌜ Answers (node-checks (outline-of s) (now (words .entry)) n ∷ []) r ⌝ }
-{
-    let at = node_place(s, n);
-    let op = word_at(words, at) as usize;
-    if OPS <= op {
-        return PartAnswer::Refused(Refusal::BadNode(at));
-    }
-    let children = CHILDREN[op];
-    if !first_word(s, n, children, word_at(words, at + 1)) {
-        return PartAnswer::Refused(Refusal::BadNode(at + 1));
-    }
-    if !second_word(n, children, word_at(words, at + 2)) {
-        return PartAnswer::Refused(Refusal::BadNode(at + 2));
-    }
-    PartAnswer::Passed
-}
-
-fn count(s: Outline, kind: Kind) -> u32
-    ensures { λ r. ⌜ r ≡ count-of kind (outline-of s) ⌝ }
-{
-    match kind {
-        Kind::Latch => s.latches,
-        Kind::Gate => s.gates,
-        Kind::Constraint => s.constraints,
-        Kind::Node => s.nodes,
-    }
-}
-
-fn one(words: &[u32], s: Outline, kind: Kind, i: u32) -> PartAnswer
-    requires { ⌜ Fitting s × (i < count-of kind (outline-of s)) ⌝ }
-    ensures { λ r. ⌜ Answers (checks-of kind (outline-of s) (now (words .entry)) i ∷ []) r ⌝ }
+// One of a kind.
+fn one(words: &[u32], s: Outline, kind: Kind, i: u32, children: &[u32]) -> PartAnswer
+    ensures { λ r. ⌜ Answers (checks-of (now (children .entry)) kind (outline-of s) (now (words .entry)) i ∷ []) r ⌝ }
 {
     match kind {
         Kind::Latch => latch(words, s, i),
         Kind::Gate => gate(words, s, i),
         Kind::Constraint => constraint(words, s, i),
-        Kind::Node => node(words, s, i),
+        Kind::Node => node(words, s, i, children),
     }
 }
 
 // All of a kind, in their order; one walk checks and counts.
-fn all(words: &[u32], s: Outline, kind: Kind) -> Walked
-    requires { ⌜ Fitting s ⌝ }
-    ensures { λ r. ⌜ AllWalked kind s (now (words .entry)) r ⌝ }
+fn all(words: &[u32], s: Outline, kind: Kind, children: &[u32]) -> Walked
+    requires { ⌜ s .«formula_nodes» ≡ s .«written_nodes» ⌝ }
+    ensures { λ r. ⌜ AllWalked (now (children .entry)) kind s (now (words .entry)) r ⌝ }
 {
-    let n = count(s, kind);
+    let n = number_of(s, kind);
     let mut seen = Seen {
         fixed: 0,
         equals: 0,
@@ -247,7 +118,7 @@ fn all(words: &[u32], s: Outline, kind: Kind) -> Walked
     };
     let mut i: u32 = 0;
     while i < n {
-        let r = one(words, s, kind, i);
+        let r = one(words, s, kind, i, children);
         let PartAnswer::Passed = r else {
             return Walked { answer: r, seen };
         };
@@ -261,26 +132,26 @@ fn all(words: &[u32], s: Outline, kind: Kind) -> Walked
 }
 
 // The parts that the outline tells of; resets are counted with the latches, forms with the nodes.
-fn parts(words: &[u32], s: Outline) -> Walked
-    requires { ⌜ Fitting s ⌝ }
-    ensures { λ r. ⌜ PartsWalked s (now (words .entry)) r ⌝ }
+fn parts(words: &[u32], s: Outline, children: &[u32]) -> Walked
+    requires { ⌜ s .«formula_nodes» ≡ s .«written_nodes» ⌝ }
+    ensures { λ r. ⌜ PartsWalked (now (children .entry)) s (now (words .entry)) r ⌝ }
 {
     let Walked {
         answer: by_latches,
         seen: latches,
-    } = all(words, s, Kind::Latch);
+    } = all(words, s, Kind::Latch, children);
     let Walked {
         answer: by_gates,
         ..
-    } = all(words, s, Kind::Gate);
+    } = all(words, s, Kind::Gate, children);
     let Walked {
         answer: by_constraints,
         ..
-    } = all(words, s, Kind::Constraint);
+    } = all(words, s, Kind::Constraint, children);
     let Walked {
         answer: by_nodes,
         seen: nodes,
-    } = all(words, s, Kind::Node);
+    } = all(words, s, Kind::Node, children);
     let to_latches = then(length(words, s), by_latches);
     let to_gates = then(to_latches, by_gates);
     let to_constraints = then(to_gates, by_constraints);
@@ -304,7 +175,7 @@ pub fn check(version: u32, words: &[u32]) -> Checked
         return Checked::Refused(f);
     }
     let s = outline(version, words);
-    let Walked { answer, seen } = parts(words, s);
+    let Walked { answer, seen } = parts(words, s, &CHILDREN);
     match answer {
         PartAnswer::Passed => Checked::Good(ProblemRecord {
             outline: s,

@@ -1,20 +1,21 @@
 // What the numbers of a problem's CNF rest on, counted while its latches and nodes are checked.
 use crate::Outline;
-use crate::check::Kind;
+use crate::kinds::Kind;
 use crate::read::latch_reset;
 use crate::read::node_place;
 use crate::read::word_at;
+use answers::numbers::one_if;
 use counts::Counts;
 use counts::Tally;
 use counts::total::counts;
 ghost use mathlib.Core.Path.{_≡_};
 ghost use mathlib.Core.Bool.{cond};
-ghost use Prim.Native.Nat.{ℕ, _+_, _^_, _<_, _≤_};
+ghost use Prim.Native.Nat.{ℕ, _+_, _^_, _<_};
 ghost use lib.Dec.{ltb};
 ghost use Rattle.meaning.specs.Problem.{node-of};
 ghost use Rattle.counts.specs.Promise.{counts-by};
 ghost use Rattle.problem.specs.Promise.{outline-of, problem-in};
-ghost use Rattle.problem.specs.CheckParts.{count-of};
+ghost use Rattle.problem.specs.Kinds.{count-of};
 ghost use Rattle.problem.specs.Walks.{FewForms, Added, SeenTo, tally-with};
 
 // The resets that are 0 or 1, and the nodes by their form: x=a, "and" and "or", Until and Release.
@@ -23,13 +24,6 @@ pub(crate) struct Seen {
     pub equals: usize,
     pub ors: usize,
     pub untils: usize,
-}
-
-// 1 where a condition holds, else 0: a number and no branch, since resets and ops come in any order.
-fn one_if(b: bool) -> usize
-    ensures { λ r. ⌜ (r ≡ cond b 1 0) × (r ≤ 1) ⌝ }
-{
-    if b { 1 } else { 0 }
 }
 
 // One latch more, by its reset.
@@ -62,7 +56,7 @@ fn with_op(seen: Seen, op: u32) -> Seen
 
 // One more of a kind: a latch by its reset, a node by its form, of a gate or a constraint nothing.
 pub(crate) fn with_one(words: &[u32], s: Outline, kind: Kind, i: u32, seen: Seen) -> Seen
-    requires { ⌜ (i < count-of kind (outline-of s)) × SeenTo kind (problem-in s (now words)) i seen ⌝ }
+    requires { ⌜ (s .«formula_nodes» ≡ s .«written_nodes») × (i < count-of kind (outline-of s)) × SeenTo kind (problem-in s (now words)) i seen ⌝ }
     ensures { λ r. ⌜ SeenTo kind (problem-in s (now (words .entry))) (i + 1) r ⌝ }
 {
     match kind {

@@ -66,12 +66,14 @@ pub(crate) fn outline(version: u32, words: &[u32]) -> Outline
     let constraints_from = gates_from + PAIR * gates;
     let constraints = header_word(version, words, CONSTRAINTS);
     let nodes_from = constraints_from + constraints;
+    let nodes = word_at(words, NODES);
     Outline {
         inputs,
         latches,
         gates,
         constraints,
-        nodes: word_at(words, NODES),
+        written_nodes: nodes,
+        formula_nodes: nodes,
         bound: word_at(words, BOUND),
         width,
         latches_from,

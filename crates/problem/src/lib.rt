@@ -3,18 +3,20 @@ pub mod answer;
 pub mod check;
 mod count;
 pub mod header;
-pub mod limits;
+mod kinds;
+pub mod parts;
 pub mod read;
 
 use counts::Counts;
 
-// The sizes of a problem, its W, and where each of its parts begins in its words.
+// The sizes of a problem, its W, and where each of its parts begins in its words. The nodes of the words and those of the formula are two numbers.
 pub struct Outline {
     pub inputs: u32,
     pub latches: u32,
     pub gates: u32,
     pub constraints: u32,
-    pub nodes: u32,
+    pub written_nodes: u32,
+    pub formula_nodes: u32,
     pub bound: u32,
     pub width: u32,
     pub latches_from: u32,

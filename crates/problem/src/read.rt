@@ -20,7 +20,7 @@ const TRUE: u32 = 1;
 pub const FREE: u32 = 2;
 
 // The word at a place, or 0 past the end.
-pub(crate) fn word_at(words: &[u32], at: usize) -> u32
+pub fn word_at(words: &[u32], at: usize) -> u32
     ensures { λ r. ⌜ r ≡ word (now (words .entry)) at ⌝ }
 {
     if at < words.len() { words[at] } else { 0 }
@@ -126,7 +126,7 @@ fn shape(op: u32, a: u32, b: u32) -> Node
 pub fn node(words: &[u32], s: Outline, n: u32) -> Node
     ensures { λ r. ⌜ node-read r ≡ node (problem-in s (now (words .entry))) n ⌝ }
 {
-    if s.nodes <= n {
+    if s.formula_nodes <= n {
         return Node::Atom(0);
     }
     let at = node_place(s, n);

@@ -1,19 +1,20 @@
 -- What is known of a reading, by the answer of the call and by its variant. Assumes nothing.
 use mathlib.Core.Bool.{true, false}
 use mathlib.Core.Path.{_≡_, refl, ap, subst, sym, _∙_}
-use mathlib.Core.List.{List, _++_}
-use Prim.Native.Nat.{ℕ, _+_, _≤_}
+use mathlib.Core.List.{List, _++_, append-assoc}
+use Prim.Native.Nat.{ℕ, _+_, _-_, _≤_}
 use native.Mathlib.Omega.{arith}
-use borrow.Author.Tests.{ltb-true}
-use lib.Dec.{T}
+use borrow.Author.Tests.{ltb-true, le-leb}
+use lib.Dec.{T, leb}
 use lib.IntN.{ℤ, pos, negsuc}
-use lib.ListN.{length, length-append, drop}
-use lib.Seq.{length-paste, drop-paste, drop-drop}
+use lib.ListN.{length, length-append, take, drop}
+use lib.Seq.{paste, length-paste, drop-paste, length-take-le, drop-drop}
 use lib.Signed.{ltZ}
 use mir.Syntax.{w64}
 use mir.Val.{SFits, toZ, ofZ}
 use mir.Facts.{toZ-ofZ}
 use Rattle.io.specs.Counts.{clamped}
+use Rattle.text.specs.Promise.{Puts}
 use Rattle.reading.specs.declared.Reading.{Reading}
 use Rattle.reading.specs.declared.Reading.the-variants.{Bytes, Failed}
 use Rattle.reading.specs.Filled.{taken-as, Within, Put, Filled}
@@ -46,6 +47,15 @@ bytes-within {most = most} e h = subst (Within most) e h
 
 pub joined-long : {n : ℕ} (xs ys : List ℕ) → n ≤ length xs → n ≤ length (xs ++ ys)
 joined-long xs ys h = rw (length-append xs ys) (omega arith)
+
+-- Bytes that are put where they fit are pasted. They are lent as the part from 0 up to n.
+pub put-paste : (chunk : List ℕ) (n at : ℕ) {before : List ℕ} {next : ℕ} {after : List ℕ} → n ≤ length chunk → at + n ≤ length before
+    → Puts (take (n - 0) chunk) at before next after → after ≡ paste before at chunk n
+put-paste chunk n at {before} h room p =
+    let all : n - 0 ≡ n = omega arith in
+    let long : length (take n chunk) ≡ n = length-take-le n chunk h in
+    let fits : leb (at + n) (length before) ≡ true = le-leb _ _ room in
+    p .held ∙ rw (all, long, fits, drop-drop n at before, append-assoc)
 
 -- The bytes past those that were read are as they were before all reads.
 abbrev pub Past : ℕ → List ℕ → List ℕ → Type 0

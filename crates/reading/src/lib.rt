@@ -1,10 +1,10 @@
 // Reads until a buffer is full or the input ends, and tells a read that fails from the end of the input.
 //
 // A read that fails after some bytes fails the whole reading, and a call that a signal interrupts counts as one that failed.
-ghost use Prim.Native.Nat.{_+_, _≤_, min};
+use text::put::put_bytes;
+ghost use Prim.Native.Nat.{_≤_, min};
 ghost use mathlib.Core.Path.{_≡_};
 ghost use lib.ListN.{length};
-ghost use lib.Seq.{paste};
 ghost use Rattle.reading.specs.Filled.{taken-as, Within, Put, Filled};
 
 // How many bytes were put at the start of the buffer, or that a read failed.
@@ -37,17 +37,6 @@ fn least(a: usize, b: usize) -> usize
     if a < b { a } else { b }
 }
 
-fn copy(from: &[u8], n: usize, to: &mut [u8], at: usize)
-    requires { ⌜ (n ≤ length (now from)) × (at + n ≤ length (now to)) ⌝ }
-    ensures { λ _. ⌜ now (to .exit) ≡ paste (now (to .entry)) at (now (from .entry)) n ⌝ }
-{
-    let mut i = 0;
-    while i < n {
-        to[at + i] = from[i];
-        i += 1;
-    }
-}
-
 // One read into the buffer, from `at` on. It goes by way of a chunk, so that no byte changes past those that were read.
 fn read_at(fd: i32, buf: &mut [u8], at: usize, chunk: &mut [u8]) -> Reading
     requires { ⌜ at ≤ length (now buf) ⌝ }
@@ -56,7 +45,8 @@ fn read_at(fd: i32, buf: &mut [u8], at: usize, chunk: &mut [u8]) -> Reading
     let n = least(buf.len() - at, chunk.len());
     let more = read_part(fd, &mut chunk[0..n]);
     if let Reading::Bytes(count) = more {
-        copy(chunk, count, buf, at);
+        let got: &[u8] = chunk;
+        put_bytes(&got[0..count], at, buf);
     }
     more
 }

@@ -10,9 +10,9 @@ use lib.IntN.{ℤ, pos}
 use lib.Dec.{eqb}
 use lib.ListN.{length, drop, length-drop, length-map, drop-of-length-le}
 use lib.Seq.{drop-cons}
-use Rattle.clauses.proofs.Satisfaction.{no-elements}
+use Rattle.answers.proofs.Tests.{no-elements}
 use Rattle.clauses.proofs.StepRule.{by-no-hints, by-hints}
-use Rattle.clauses.specs.Lists.{empty}
+use Rattle.answers.specs.Lists.{empty}
 use Rattle.clauses.specs.Clauses.{negated, variable-of, among}
 use Rattle.clauses.specs.Refutations.{Lookup, Outcome, conflict, unit, neither, both-signs, hint-outcome, hints-conflict, step, step-accepted}
 use Rattle.refutation.specs.Work.{Older, Values, Marked}

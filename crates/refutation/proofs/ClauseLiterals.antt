@@ -11,7 +11,8 @@ use lib.IntN.{ℤ, pos, negsuc}
 use lib.Dec.{eqb, leb, eqb·zero-suc, eqb·suc-zero, eqb·suc-suc}
 use lib.ListN.{length, getD, take}
 use lib.Seq.{take-suc}
-use Rattle.clauses.proofs.Satisfaction.{all-of-at, variable-of-negated}
+use Rattle.answers.proofs.Tests.{all-of-at}
+use Rattle.clauses.proofs.Satisfaction.{variable-of-negated}
 use Rattle.clauses.specs.Clauses.{negated, variable-of, literal-within, same}
 use Rattle.refutation.specs.Work.{LiteralsWithin}
 

@@ -10,9 +10,9 @@ use borrow.Author.Tests.{le-leb, lt-leb}
 use lib.IntN.{ℤ, pos, negsuc}
 use lib.Dec.{leb}
 use lib.ListN.{length}
-use Rattle.clauses.specs.Lists.{numbered}
-use Rattle.clauses.specs.Limits.{variables-limit}
-use Rattle.clauses.specs.Answers.{Answer, check, first-failing, granted, bad-cnf}
+use Rattle.answers.specs.Lists.{numbered}
+use Rattle.answers.specs.Limits.{variables-limit}
+use Rattle.answers.specs.Answers.{Answer, check, first-failing, granted, bad-cnf}
 use Rattle.clauses.specs.Clauses.{Clause, variable-of}
 use Rattle.clauses.specs.CnfWords.{clauses-of, in-front, is-0, ended-after, ended, cnf-checks}
 use Rattle.clauses.proofs.ReadBack.{some-clause}

@@ -9,9 +9,9 @@ use native.Mathlib.Omega.{arith}
 use lib.IntN.{ℤ}
 use lib.Dec.{leb}
 use lib.ListN.{length}
-use Rattle.clauses.proofs.Satisfaction.{first-true}
+use Rattle.answers.proofs.Tests.{first-true}
 use Rattle.clauses.proofs.WordByWord.{Part, literals, hints, is-literals, other, part-after, own-after, right-in, word-checks, part-at-end, whole-by-parts, word-by-word}
-use Rattle.clauses.specs.Answers.{Answer, check, first-failing, granted, bad-refutation}
+use Rattle.answers.specs.Answers.{Answer, check, first-failing, granted, bad-refutation}
 use Rattle.clauses.specs.Clauses.{Clause, size}
 use Rattle.clauses.specs.CnfWords.{clauses-of, is-0, ended-after}
 use Rattle.clauses.specs.Refutations.{earlier, paired, steps-of, refutation-checks}

@@ -11,9 +11,10 @@ use lib.Seq.{take-all, split-at}
 use mir.Syntax.{w32}
 use mir.Val.{SFits, toZ, ofZ}
 use mir.Facts.{toZ-ofZ}
-use Rattle.clauses.proofs.Satisfaction.{false-if-not-true, all-of-append, same-self, eq-if-same, those-append, variable-of-negated}
+use Rattle.answers.proofs.Tests.{false-if-not-true, all-of-append, those-append}
+use Rattle.clauses.proofs.Satisfaction.{same-self, eq-if-same, variable-of-negated}
 use Rattle.clauses.proofs.StepRule.{is-unit}
-use Rattle.clauses.specs.Lists.{all-of}
+use Rattle.answers.specs.Lists.{all-of}
 use Rattle.clauses.specs.Clauses.{negated, variable-of, same, among}
 use Rattle.clauses.specs.Refutations.{Outcome, conflict, unit, neither, not-false, outcome-of, outcome}
 use Rattle.refutation.specs.Work.{mark-of, cell, Values}

@@ -7,9 +7,10 @@ use native.Mathlib.Omega.{arith}
 use borrow.Author.Tests.{le-leb, lt-leb}
 use lib.IntN.{ℤ}
 use lib.ListN.{length, replicate}
-use Rattle.clauses.proofs.Answers.{first-failing-passed, number-of, refused-anyway, steps-judged, cnf-judged, clauses-judged}
-use Rattle.clauses.specs.Lists.{written}
-use Rattle.clauses.specs.Answers.{first-failing, granted, bad-cnf, bad-refutation}
+use Rattle.answers.proofs.Answers.{first-failing-passed, number-of, refused-anyway}
+use Rattle.clauses.proofs.Judges.{steps-judged, cnf-judged, clauses-judged}
+use Rattle.answers.specs.Lists.{written}
+use Rattle.answers.specs.Answers.{first-failing, granted, bad-cnf, bad-refutation}
 use Rattle.clauses.specs.CnfWords.{clauses-of, cnf-checks}
 use Rattle.clauses.specs.Refutations.{steps-of, refutation-checks, area-checks, judge-steps, judge-cnf, area-after}
 use Rattle.refutation.specs.declared.RefutationAnswer.{RefutationAnswer}

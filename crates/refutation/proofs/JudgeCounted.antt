@@ -7,7 +7,7 @@ use native.Mathlib.Omega.{arith}
 use lib.IntN.{ℤ}
 use lib.ListN.{length, getD, drop, replicate, length-append, length-drop, length-replicate, getD-replicate, List·getD-append}
 use lib.Seq.{drop-drop, drop-at}
-use Rattle.clauses.specs.Lists.{written}
+use Rattle.answers.specs.Lists.{written}
 use Rattle.clauses.specs.Clauses.{Within}
 use Rattle.clauses.specs.CnfWords.{clauses-of}
 use Rattle.refutation.specs.Work.{Older, Places, Standing}

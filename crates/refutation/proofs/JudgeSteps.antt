@@ -9,9 +9,9 @@ use lib.IntN.{ℤ}
 use lib.Dec.{eqb}
 use lib.ListN.{length, drop, set, length-set}
 use lib.Seq.{drop-set-lt}
-use Rattle.clauses.proofs.Satisfaction.{no-elements, both-true, all-of-append}
-use Rattle.clauses.specs.Lists.{all-of, empty}
-use Rattle.clauses.specs.Answers.{Answer, check, first-failing-part, granted, step-refused, not-closed}
+use Rattle.answers.proofs.Tests.{no-elements, both-true, all-of-append}
+use Rattle.answers.specs.Lists.{all-of, empty}
+use Rattle.answers.specs.Answers.{Answer, check, first-failing-part, granted, step-refused, not-closed}
 use Rattle.clauses.specs.Clauses.{Clause, variable-of, literal-within}
 use Rattle.clauses.specs.CnfWords.{clauses-of}
 use Rattle.clauses.specs.Refutations.{Step, step, steps-of, step-accepted, clause-numbered, with-step, step-checks, last-is-empty-after, judge-steps}

@@ -9,9 +9,9 @@ use lib.IntN.{ℤ}
 use lib.ListN.{length, getD, take, length-append, length-map}
 use lib.Seq.{length-take-le}
 use Rattle.clauses.proofs.Lookups.{numbered-some}
-use Rattle.clauses.proofs.Satisfaction.{both-true, all-of-at, all-of-member}
+use Rattle.answers.proofs.Tests.{both-true, all-of-at, all-of-member}
 use Rattle.clauses.proofs.StepRule.{unit-open}
-use Rattle.clauses.specs.Lists.{all-of}
+use Rattle.answers.specs.Lists.{all-of}
 use Rattle.clauses.specs.Clauses.{Clause, negated, literal-within, among}
 use Rattle.clauses.specs.CnfWords.{clauses-of}
 use Rattle.clauses.specs.Refutations.{unit, outcome, clause-numbered, hint-outcome, steps-of}

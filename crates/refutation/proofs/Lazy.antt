@@ -5,12 +5,12 @@ use Prim.Native.Nat.{ℕ, _+_}
 use native.Mathlib.Omega.{arith}
 use lib.IntN.{ℤ, pos, negsuc}
 use lib.ListN.{length, replicate}
-use Rattle.clauses.specs.Limits.{variables-limit}
-use Rattle.clauses.specs.Answers.{Answer}
+use Rattle.answers.specs.Limits.{variables-limit}
+use Rattle.answers.specs.Answers.{Answer}
 use Rattle.clauses.specs.CnfWords.{cnf-checks}
 use Rattle.clauses.specs.Refutations.{judge-cnf, refutation-checks, area-checks, step-accepted}
 use Rattle.clauses.specs.Cases.{T-cnf, T-steps, T-other-steps}
-use Rattle.clauses.proofs.Answers.{number-of, place-of}
+use Rattle.answers.proofs.Answers.{number-of, place-of}
 use Rattle.refutation.specs.Promise.{Judged, CnfCounted, StepsCounted, answer-of}
 use Rattle.refutation.specs.declared.RefutationAnswer.{RefutationAnswer}
 use Rattle.refutation.specs.declared.RefutationAnswer.the-variants.{Yes, BadCnf, BadRefutation, AreaTooSmall, StepRefused, NotClosed}
@@ -107,6 +107,10 @@ bad-hint = over-T (pos 0 ∷ pos 2 ∷ pos 13 ∷ pos 0 ∷ []) 7 13
 pub made-up-hint-place-breaks : (i : ℕ) → ¬ (i ≡ 2) → Wrong bad-hint (BadRefutation i)
 unfolding laid-down
 made-up-hint-place-breaks i h = wrong-place bad-hint (BadRefutation i) h
+
+pub own-step-hinted-breaks : (r : RefutationAnswer) → ¬ (answer-of r .number ≡ 11) → Wrong bad-hint r
+unfolding laid-down
+own-step-hinted-breaks r h = wrong-number bad-hint r h
 
 -- 1 -7 0 1 0: a literal of variable 7 among 6 variables, at word 1
 abbrev pub bad-literal : Input

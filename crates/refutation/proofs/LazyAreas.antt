@@ -6,7 +6,7 @@ use Prim.Native.Nat.{ℕ, _+_, _-_, _<_, _≤_}
 use native.Mathlib.Omega.{arith}
 use lib.ListN.{length, getD, drop, replicate, length-replicate, getD-replicate, List·getD-append}
 use lib.Seq.{getD-append-add, getD-drop}
-use Rattle.clauses.specs.Answers.{Answer}
+use Rattle.answers.specs.Answers.{Answer}
 use Rattle.clauses.specs.CnfWords.{clauses-of}
 use Rattle.clauses.specs.Refutations.{steps-of, numbers-area, clauses-area, judged, area-after}
 use Rattle.clauses.specs.Cases.{T-steps, T-other-steps}

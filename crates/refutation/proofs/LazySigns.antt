@@ -8,12 +8,12 @@ use native.Mathlib.Omega.{arith}
 use lib.IntN.{ℤ, pos}
 use lib.Dec.{eqb}
 use lib.ListN.{length}
-use Rattle.clauses.specs.Lists.{all-of, empty}
+use Rattle.answers.specs.Lists.{all-of, empty}
 use Rattle.clauses.specs.Clauses.{Clause, minus, negated, variable-of, among}
 use Rattle.clauses.specs.CnfWords.{clauses-of}
 use Rattle.clauses.specs.Refutations.{Step, Lookup, steps-of, both-signs, clause-numbered, not-false, Outcome, conflict, unit, neither, hints-conflict, with-step}
 use Rattle.clauses.specs.Cases.{T-steps, T-trivial-first, T-trivial-numbered, T-trivial-hinted}
-use Rattle.clauses.proofs.Satisfaction.{not-both, false-if-not-true}
+use Rattle.answers.proofs.Tests.{not-both, false-if-not-true}
 use Rattle.clauses.proofs.StepRule.{by-no-hints}
 use Rattle.clauses.proofs.NeverAHint.{never-a-hint}
 use Rattle.clauses.proofs.StepByStep.{step-at, clauses-before, accepted-at, Reached, yes-accepts, open-accepts, refused-at, answered-13}
@@ -21,7 +21,7 @@ use Rattle.refutation.specs.declared.RefutationAnswer.{RefutationAnswer}
 use Rattle.refutation.specs.declared.RefutationAnswer.the-variants.{Yes, StepRefused, NotClosed}
 use Rattle.refutation.proofs.Unique.{same-answer}
 use Rattle.refutation.proofs.Lazy.{Input, Wrong, laid-down, wrong-number, over-T}
-use Rattle.refutation.proofs.LazySteps.{Rule, Adding, steps-by, answer-by, the-rule, of-hints, hints-by}
+use Rattle.refutation.proofs.LazySteps.{Rule, Adding, answer-by, of-hints, hints-by, answer-adding}
 
 -- ════════ For all words ════════
 
@@ -116,9 +116,6 @@ hint-asked-for-breaks = wrong-number trivial-first (StepRefused 0) (λ e. omega 
 -- Later numbers shift: the next step has its number.
 abbrev pub left-out : Adding
 left-out cs s = cond (both-signs (s .clause)) cs (with-step cs s)
-
-abbrev pub answer-adding : Adding → Input → RefutationAnswer
-answer-adding adds x = steps-by adds the-rule (clauses-of (x .cnf)) 0 false (steps-of (x .refutation))
 
 -- The last step's hint 14 is (-4): yes is right, and for this judge no clause has the number, so it says 13 at 2.
 abbrev pub numbered-past-trivial : Input

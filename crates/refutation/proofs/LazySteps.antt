@@ -1,16 +1,16 @@
 -- Judges that follow a wrong rule for a step do not meet the promise. Each is right but for its rule. Assumes nothing.
 use mathlib.Core.Path.{_≡_, refl}
 use mathlib.Core.Bool.{Bool, true, false, not, cond, _||_}
-use mathlib.Core.List.{List, [], _∷_, map}
+use mathlib.Core.List.{List, [], _∷_, _++_, map}
 use mathlib.Core.Option.{Option·getD}
 use Prim.Native.Nat.{ℕ, suc, _+_}
 use native.Mathlib.Omega.{arith}
 use lib.IntN.{ℤ, pos}
 use lib.Dec.{eqb}
 use lib.ListN.{length}
-use Rattle.clauses.specs.Lists.{all-of, empty}
-use Rattle.clauses.specs.Answers.{check, first-failing-part, granted, not-closed}
-use Rattle.clauses.specs.Clauses.{Clause, negated, same}
+use Rattle.answers.specs.Lists.{all-of, empty}
+use Rattle.answers.specs.Answers.{check, first-failing-part, granted, not-closed}
+use Rattle.clauses.specs.Clauses.{Clause, minus, negated, same}
 use Rattle.clauses.specs.CnfWords.{clauses-of}
 use Rattle.clauses.specs.Refutations.{Step, steps-of, both-signs, clause-numbered, not-false, Outcome, conflict, unit, neither, outcome, step-accepted, step-checks, with-step, last-is-empty-after, judge-steps}
 use Rattle.refutation.specs.Promise.{answer-of}
@@ -179,3 +179,37 @@ idle-hint = over-T (pos 0 ∷ pos 3 ∷ pos 2 ∷ pos 12 ∷ pos 5 ∷ pos 0 ∷
 pub skipped-hint-breaks : Wrong idle-hint (answer-by skips-hints idle-hint)
 unfolding laid-down
 skipped-hint-breaks = wrong-number idle-hint Yes (λ e. omega arith)
+
+-- ════════ Another clause under an accepted step's number ════════
+
+-- What a judge that adds clauses so answers.
+abbrev pub answer-adding : Adding → Input → RefutationAnswer
+answer-adding adds x = steps-by adds the-rule (clauses-of (x .cnf)) 0 false (steps-of (x .refutation))
+
+-- None: the clause of an accepted step is not found under its number.
+abbrev pub none-added : Adding
+none-added cs s = cs
+
+-- Its hints, as if they were literals.
+abbrev pub hints-added : Adding
+hints-added cs s = cs ++ (map pos (s .hints) ∷ [])
+
+-- -4 0 2 5 0, then 0 12 13 0: hint 13 is (-4). Yes is right, and these judges say 13 at 1: none has the number, and (2 5) gives nothing.
+abbrev pub names-a-step : Input
+names-a-step = over-T (minus 4 ∷ pos 0 ∷ pos 2 ∷ pos 5 ∷ pos 0 ∷ pos 0 ∷ pos 12 ∷ pos 13 ∷ pos 0 ∷ []) 7 14
+
+pub clause-not-added-breaks : Wrong names-a-step (answer-adding none-added names-a-step)
+unfolding laid-down
+clause-not-added-breaks = wrong-number names-a-step (StepRefused 1) (λ e. omega arith)
+
+pub hints-for-clause-breaks : Wrong names-a-step (answer-adding hints-added names-a-step)
+unfolding laid-down
+hints-for-clause-breaks = wrong-number names-a-step (StepRefused 1) (λ e. omega arith)
+
+-- 1 -1 0 0, then 0 13 0: hint 13 is (1 -1). 13 at 1 is right, and of a step without hints this judge adds the empty clause and says yes.
+abbrev pub names-a-trivial-step : Input
+names-a-trivial-step = over-T (pos 1 ∷ minus 1 ∷ pos 0 ∷ pos 0 ∷ pos 0 ∷ pos 13 ∷ pos 0 ∷ []) 7 14
+
+pub no-hints-for-clause-breaks : Wrong names-a-trivial-step (answer-adding hints-added names-a-trivial-step)
+unfolding laid-down
+no-hints-for-clause-breaks = wrong-number names-a-trivial-step Yes (λ e. omega arith)

@@ -4,7 +4,7 @@ use mathlib.Core.List.{List}
 use Prim.Native.Nat.{ℕ, _≤_}
 use lib.IntN.{ℤ}
 use lib.ListN.{length}
-use Rattle.clauses.specs.Answers.{first-failing, granted}
+use Rattle.answers.specs.Answers.{first-failing, granted}
 use Rattle.clauses.specs.Clauses.{Assignment, Satisfies}
 use Rattle.clauses.specs.CnfWords.{clauses-of, cnf-checks}
 use Rattle.clauses.specs.Refutations.{steps-of, numbers-area, clauses-area}

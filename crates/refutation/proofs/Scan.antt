@@ -7,7 +7,7 @@ use native.Mathlib.Numerals.{add-one}
 use lib.IntN.{ℤ, pos}
 use lib.ListN.{length, drop, getD, drop-of-length-le}
 use lib.Seq.{drop-cons}
-use Rattle.clauses.specs.Answers.{Answer, granted}
+use Rattle.answers.specs.Answers.{Answer, granted}
 
 pub record Reader : Type 1 where
   pub State : Type 0

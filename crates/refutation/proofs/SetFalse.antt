@@ -9,8 +9,9 @@ use lib.IntN.{ℤ, pos, negsuc, negℤ-negℤ}
 use lib.Dec.{eqb·zero-suc, eqb·suc-zero, eqb·suc-suc}
 use lib.ListN.{length, set, take, drop, length-set, take-append-drop}
 use lib.Seq.{take-all}
-use Rattle.clauses.proofs.Satisfaction.{both-true, first-true, second-true, some-of-append, some-of-map, variable-of-negated}
-use Rattle.clauses.specs.Lists.{some-of}
+use Rattle.answers.proofs.Tests.{both-true, first-true, second-true, some-of-append, some-of-map}
+use Rattle.clauses.proofs.Satisfaction.{variable-of-negated}
+use Rattle.answers.specs.Lists.{some-of}
 use Rattle.clauses.specs.Clauses.{negated, variable-of, literal-within, same, among}
 use Rattle.clauses.specs.CnfWords.{is-0}
 use Rattle.clauses.specs.Refutations.{both-signs}

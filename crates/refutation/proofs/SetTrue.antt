@@ -12,7 +12,8 @@ use lib.IntN.{ℤ, pos, negsuc}
 use lib.Dec.{eqb}
 use lib.ListN.{length, getD, set, length-set}
 use lib.Seq.{getD-set-same, getD-set-other, drop-set-lt}
-use Rattle.clauses.proofs.Satisfaction.{false-if-not-true, same-self, eq-if-same, variable-of-negated}
+use Rattle.answers.proofs.Tests.{false-if-not-true}
+use Rattle.clauses.proofs.Satisfaction.{same-self, eq-if-same, variable-of-negated}
 use Rattle.clauses.specs.Clauses.{negated, variable-of, literal-within, same, among}
 use Rattle.refutation.specs.Work.{mark-of, cell, LiteralsWithin, Older, Values, Marked}
 use Rattle.refutation.proofs.ClauseLiterals.{same-sym, other-sign, within-at-least, within-at-most}

@@ -11,10 +11,10 @@ use lib.IntN.{ℤ, pos, negsuc}
 use lib.Dec.{leb, ltb}
 use lib.ListN.{length, getD, drop, length-drop, drop-of-length-le}
 use lib.Seq.{drop-cons, drop-drop, take-suc}
-use Rattle.clauses.proofs.Satisfaction.{first-true, second-true, both-true, all-of-first, all-of-second}
-use Rattle.clauses.proofs.Answers.{passing}
+use Rattle.answers.proofs.Tests.{first-true, second-true, both-true, all-of-first, all-of-second}
+use Rattle.answers.proofs.Answers.{passing}
 use Rattle.clauses.proofs.WordByWord.{Part, literals, hints, is-literals, other, word-checks, words-right, words-right-is, part-at-end, whole-by-parts, word-by-word}
-use Rattle.clauses.specs.Answers.{check, bad-refutation}
+use Rattle.answers.specs.Answers.{check, bad-refutation}
 use Rattle.clauses.specs.Clauses.{variable-of}
 use Rattle.clauses.specs.CnfWords.{clauses-of, ended}
 use Rattle.clauses.specs.Refutations.{Step, step, steps-of}

@@ -5,7 +5,7 @@ use mathlib.Core.List.{List}
 use Prim.Native.Nat.{ℕ}
 use lib.IntN.{ℤ}
 use lib.Dec.{eqb}
-use Rattle.clauses.specs.Answers.{Answer, bad-refutation}
+use Rattle.answers.specs.Answers.{Answer, bad-refutation}
 use Rattle.clauses.specs.CnfWords.{clauses-of}
 use Rattle.clauses.specs.Refutations.{steps-of, numbers-area, clauses-area, area-after}
 use Rattle.refutation.specs.declared.RefutationAnswer.{RefutationAnswer}

@@ -4,7 +4,7 @@ use mathlib.Core.List.{List}
 use Prim.Native.Nat.{ℕ}
 use lib.IntN.{ℤ}
 use lib.ListN.{length}
-use Rattle.clauses.specs.Answers.{Answer, first-failing, granted, bad-cnf, bad-refutation, area-too-small, step-refused, not-closed}
+use Rattle.answers.specs.Answers.{Answer, first-failing, granted, bad-cnf, bad-refutation, area-too-small, step-refused, not-closed}
 use Rattle.clauses.specs.CnfWords.{cnf-checks, clauses-of}
 use Rattle.clauses.specs.Refutations.{refutation-checks, steps-of, judge-cnf, numbers-area, clauses-area, area-after}
 use Rattle.refutation.specs.declared.RefutationAnswer.{RefutationAnswer}

@@ -6,7 +6,7 @@ use Prim.Native.Nat.{ℕ, zero, suc, _+_, _*_, _<_, _≤_}
 use lib.IntN.{ℤ, pos, negsuc}
 use lib.Dec.{eqb}
 use lib.ListN.{length, getD, take, drop}
-use Rattle.clauses.specs.Lists.{all-of}
+use Rattle.answers.specs.Lists.{all-of}
 use Rattle.clauses.specs.Clauses.{Clause, Within, variable-of, literal-within, among}
 use Rattle.clauses.specs.CnfWords.{clauses-of, cnf-checks}
 use Rattle.clauses.specs.Refutations.{Outcome, conflict, unit, neither, steps-of, refutation-checks}

@@ -9,7 +9,7 @@ use crate::words::count_steps;
 ghost use mathlib.Core.Path.{_≡_};
 ghost use Prim.Native.Nat.{suc, _+_, _<_, _≤_};
 ghost use lib.ListN.{length, replicate};
-ghost use Rattle.clauses.specs.Lists.{written};
+ghost use Rattle.answers.specs.Lists.{written};
 ghost use Rattle.clauses.specs.CnfWords.{clauses-of};
 ghost use Rattle.clauses.specs.Refutations.{steps-of, judge-steps};
 ghost use Rattle.refutation.specs.Promise.{answer-of, Judged};

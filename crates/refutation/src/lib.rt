@@ -1,7 +1,6 @@
 // Judges a refutation of any CNF. Knows nothing of circuits.
 pub mod answer;
 pub mod judge;
-pub mod literals;
 mod places;
 mod steps;
 mod values;

@@ -1,12 +1,12 @@
 // Steps: what a hint gives, whether a step is accepted, and all steps one after the other.
 use crate::RefutationAnswer;
-use crate::literals::variable;
 use crate::places::clause_at;
 use crate::places::lookup;
 use crate::values::Found;
 use crate::values::find;
 use crate::values::set_false;
 use crate::values::set_true;
+use clauses::literals::variable;
 ghost use mathlib.Core.Path.{_≡_};
 ghost use mathlib.Core.List.{List, map};
 ghost use Prim.Native.Nat.{suc, _+_, _<_, _≤_};

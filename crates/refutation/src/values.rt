@@ -1,5 +1,5 @@
 // The values of variables while one step is judged. A value is a stamp of its step with a sign, so that nothing is cleared between steps.
-use crate::literals::variable;
+use clauses::literals::variable;
 ghost use mathlib.Core.Path.{_≡_};
 ghost use mathlib.Core.Bool.{true, false, not};
 ghost use mathlib.Core.List.{List, [], _∷_, map};
@@ -7,7 +7,7 @@ ghost use Prim.Native.Nat.{_<_, _≤_, suc};
 ghost use lib.ListN.{length, replicate};
 ghost use lib.Dec.{eqb};
 ghost use lib.IntN.{ℤ};
-ghost use Rattle.clauses.specs.Lists.{written};
+ghost use Rattle.answers.specs.Lists.{written};
 ghost use Rattle.clauses.specs.Clauses.{negated, variable-of, among};
 ghost use Rattle.clauses.specs.Refutations.{both-signs, outcome};
 ghost use Rattle.refutation.specs.Work.{stamps-limit, mark-of, cell, LiteralsWithin, Older, Values, Marked, outcome-found};

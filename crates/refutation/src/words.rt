@@ -1,6 +1,7 @@
 // The words of a CNF and of a refutation, checked and counted.
 use crate::WordsCounted;
-use crate::literals::variable;
+use answers::limits::VARIABLES_LIMIT;
+use clauses::literals::variable;
 ghost use mathlib.Core.Bool.{cond, _||_};
 ghost use mathlib.Core.Path.{_≡_};
 ghost use Prim.Native.Nat.{suc, _+_};
@@ -9,9 +10,6 @@ ghost use Rattle.clauses.specs.Clauses.{size};
 ghost use Rattle.clauses.specs.CnfWords.{is-0};
 ghost use Rattle.clauses.specs.Refutations.{earlier};
 ghost use Rattle.refutation.specs.Promise.{CnfCounted, StepsCounted};
-
-// Document 01's limit on the variables of a bare CNF.
-const VARIABLES_LIMIT: u32 = 65535;
 
 // 16: V, then the words in order, then cut short; else the number of clauses.
 pub(crate) fn count_clauses(variables: u32, cnf: &[i32]) -> WordsCounted

@@ -10,8 +10,8 @@ use borrow.Author.Tests.{le-leb, lt-leb}
 use lib.Dec.{leb}
 use lib.ListN.{length, getD, take, drop, set, length-append, take-append-drop, length-drop, length-set}
 use lib.Seq.{take-suc, length-take-le, drop-cons, drop-drop, take-set-le, drop-set-add, getD-set-same, drop-set-lt, set-append-seam, append-snoc}
-use Rattle.clauses.specs.Lists.{written}
-use Rattle.clauses.proofs.PutAt.{put-at, put-at-one, put-at-length, put-at-then}
+use Rattle.answers.specs.Lists.{written}
+use Rattle.answers.proofs.PutAt.{put-at, put-at-one, put-at-length, put-at-then}
 use Rattle.text.specs.Promise.{placed, largest-size, Puts}
 
 -- ════════ From the start ════════

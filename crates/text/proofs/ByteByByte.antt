@@ -6,9 +6,10 @@ use Prim.Native.Nat.{ℕ, suc, _+_, _*_, _-_, _/_, _%_, _≤_, _<_}
 use native.Mathlib.Omega.{arith}
 use borrow.Author.Tests.{ltb-true, ltb-false, lt-ltb, leb-true, le-leb, eqb-false, ne-eqb, not-true}
 use lib.Dec.{leb, ltb, eqb}
-use Rattle.clauses.specs.Lists.{empty}
-use Rattle.clauses.proofs.Satisfaction.{first-true, second-true, false-if-not-true, not-both}
-use Rattle.text.specs.Numbers.{digit, decimal, largest-number, value, is-number}
+use Rattle.answers.specs.Lists.{empty}
+use Rattle.answers.proofs.Tests.{first-true, second-true, false-if-not-true, not-both}
+use Rattle.text.specs.Numbers.{digit, decimal, value, is-number}
+use Rattle.answers.specs.Limits.{largest-number}
 use Rattle.text.specs.Promise.{no-number, scanned, is-digit, longer, state-after}
 use Rattle.text.proofs.Decimals.{decimal-one, decimal-more}
 use Rattle.text.proofs.NumberLaws.{decimal-is-number, number-printed, number-within, not-empty-more}
@@ -143,9 +144,6 @@ scanned-from v (b ∷ w) =
     ap scanned (sym (append-assoc v (b ∷ []) w))
     ∙ scanned-from (v ++ (b ∷ [])) w
     ∙ ap (λ (s : ℕ). states-after s w) (scanned-more v b)
-
-pub scanned-is : (w : List ℕ) → scanned w ≡ states-after 0 w
-scanned-is w = scanned-from [] w ∙ ap (λ (s : ℕ). states-after s w) scanned-none
 
 pub states-after-append : (s : ℕ) (v w : List ℕ) → states-after s (v ++ w) ≡ states-after (states-after s v) w
 states-after-append s [] w = refl

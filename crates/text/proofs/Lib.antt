@@ -7,3 +7,4 @@ pub mod ByteByByte
 pub mod UniqueWord
 pub mod Buffers
 pub mod Unique
+pub mod Lazy

@@ -2,14 +2,15 @@
 -- Assumes nothing.
 use mathlib.Core.Path.{_≡_, refl, sym, _∙_, ap}
 use mathlib.Core.Bool.{Bool, true, false, not, false≢true}
-use mathlib.Core.List.{List, [], _∷_, _++_, append-nil}
+use mathlib.Core.List.{List, [], _∷_, _++_}
 use Prim.Native.Nat.{ℕ, zero, suc, _+_, _*_, _-_, _/_, _%_, _≤_, _<_}
 use native.Mathlib.Omega.{arith}
 use borrow.Author.Tests.{ltb-true, ltb-false, leb-true, le-leb, eqb-true, ne-eqb, not-true}
 use lib.Dec.{leb, ltb, eqb}
-use Rattle.clauses.specs.Lists.{all-of, empty}
-use Rattle.clauses.proofs.Satisfaction.{both-true, first-true, second-true, eqb-self, all-of-append, all-of-weaker}
-use Rattle.text.specs.Numbers.{digit, decimal, largest-number, value-after, value, same, is-number}
+use Rattle.answers.specs.Lists.{all-of, empty}
+use Rattle.answers.proofs.Tests.{both-true, first-true, second-true, eqb-self, all-of-append, all-of-weaker}
+use Rattle.text.specs.Numbers.{digit, decimal, value-after, value, same, is-number}
+use Rattle.answers.specs.Limits.{largest-number}
 use Rattle.text.specs.Readings.{parts, word-of, past-word}
 use Rattle.text.specs.Promise.{is-digit}
 use Rattle.text.proofs.Decimals.{decimal-one, decimal-more}
@@ -165,9 +166,6 @@ module _ (rest : List ℕ) (ends : word-of rest ≡ []) where
 
   pub past-decimal : (n : ℕ) → past-word (decimal n ++ rest) ≡ rest
   past-decimal n = past-joined (decimal n) (decimal-one-word n)
-
-pub word-alone : (w : List ℕ) → one-word w ≡ true → word-of w ≡ w
-word-alone w e = ap word-of (sym (append-nil w)) ∙ word-of-joined [] refl w e
 
 -- A word has no byte that parts words.
 pub word-is-one-word : (t : List ℕ) → one-word (word-of t) ≡ true

@@ -2,14 +2,14 @@
 use mathlib.Core.Path.{_≡_, refl, sym, _∙_, ap}
 use mathlib.Core.Bool.{Bool, true, false, not, _&&_, _||_}
 use mathlib.Core.List.{List, [], _∷_}
-use mathlib.Core.Logic.{_⊎_, inl, inr}
 use Prim.Native.Nat.{ℕ, suc, _+_, _≤_, _<_}
 use native.Mathlib.Omega.{arith}
 use borrow.Author.Tests.{ltb-true, lt-ltb, leb-true, le-leb, leb-false, lt-leb, le-ltb, eqb-true, eq-eqb, ne-eqb}
 use lib.Dec.{leb, ltb, eqb}
-use Rattle.clauses.specs.Lists.{empty}
-use Rattle.clauses.proofs.Satisfaction.{both-true, first-true, second-true, false-if-not-true, not-both}
-use Rattle.text.specs.Numbers.{decimal, largest-number, value, is-number}
+use Rattle.answers.specs.Lists.{empty}
+use Rattle.answers.proofs.Tests.{both-true, first-true, second-true, false-if-not-true}
+use Rattle.text.specs.Numbers.{decimal, value, is-number}
+use Rattle.answers.specs.Limits.{largest-number}
 use Rattle.text.specs.Promise.{no-number, scanned}
 use Rattle.text.proofs.NumberLaws.{none-is-no-number, decimal-value, decimal-is-number, number-within, number-not-empty}
 

@@ -2,7 +2,8 @@
 use mathlib.Core.Path.{_≡_, refl}
 use mathlib.Core.Bool.{true, false}
 use mathlib.Core.List.{[]}
-use Rattle.text.specs.Numbers.{bytes-of, decimal, largest-number, is-number}
+use Rattle.text.specs.Numbers.{bytes-of, decimal, is-number}
+use Rattle.answers.specs.Limits.{largest-number}
 use Rattle.text.specs.Readings.{word-of, past-word}
 use Rattle.text.specs.Promise.{no-number, scanned}
 

@@ -6,6 +6,7 @@ use Prim.Native.Char.{code}
 use Prim.Native.String.{String, [] as no-text, _∷_ as _then_}
 use lib.Dec.{leb, ltb, eqb}
 use lib.IntN.{ℤ, pos, negsuc}
+use Rattle.answers.specs.Limits.{largest-number}
 
 -- ════════ Out ════════
 
@@ -34,14 +35,6 @@ signed-decimal (pos n) = decimal n
 signed-decimal (negsuc n) = bytes-of "-" ++ decimal (suc n)
 
 -- ════════ In ════════
-
--- "numbers .. are at most 2,147,483,647 in size"
-unfoldable pub largest-number : ℕ
-largest-number = 2_147_483_647
-
--- "A text has at most 2,147,483,647 bytes."
-unfoldable pub longest-text : ℕ
-longest-text = 2_147_483_647
 
 -- What digits are worth, each ten times the one after it.
 abbrev pub value-after : ℕ → List ℕ → ℕ

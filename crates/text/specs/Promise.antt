@@ -5,8 +5,9 @@ use mathlib.Core.List.{List, _++_}
 use Prim.Native.Nat.{ℕ, suc, _+_, _*_, _-_, _^_, min}
 use lib.Dec.{leb, ltb, eqb}
 use lib.ListN.{length, take, drop}
-use Rattle.clauses.specs.Lists.{empty, written}
-use Rattle.text.specs.Numbers.{largest-number, value, is-number}
+use Rattle.answers.specs.Lists.{empty, written}
+use Rattle.answers.specs.Limits.{largest-number}
+use Rattle.text.specs.Numbers.{value, is-number}
 use Rattle.text.specs.Readings.{word-of}
 use Rattle.text.specs.declared.scan.Word.{Word}
 

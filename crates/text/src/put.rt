@@ -1,6 +1,6 @@
 // Texts put into a lent buffer, from a place on. Each answers the place after its text, and changes nothing where the text does not fit.
+use answers::numbers::one_if;
 ghost use mathlib.Core.Path.{_≡_};
-ghost use mathlib.Core.Bool.{cond};
 ghost use mathlib.Core.List.{[], _∷_, _++_};
 ghost use Prim.Native.Nat.{_+_, _≤_, min};
 ghost use lib.ListN.{length};
@@ -33,13 +33,6 @@ pub fn put_bytes(text: &[u8], at: usize, out: &mut [u8]) -> usize
         }
     }
     next
-}
-
-// A test as a number.
-fn one_if(b: bool) -> usize
-    ensures { λ r. ⌜ (r ≡ cond b 1 0) × (r ≤ 1) ⌝ }
-{
-    if b { 1 } else { 0 }
 }
 
 // How many decimal digits a number has. Of the small ones, which are most, without a branch for each.

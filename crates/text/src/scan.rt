@@ -1,13 +1,8 @@
 // A word of a text, byte by byte: the whole of what was read of it so far is one number, so that a reader can stop and go on at any byte.
+use answers::limits::LARGEST_NUMBER;
 ghost use mathlib.Core.Path.{_≡_};
 ghost use Rattle.text.specs.Readings.{parts};
 ghost use Rattle.text.specs.Promise.{state-after, WordAt};
-
-// "numbers .. are at most 2,147,483,647 in size"
-pub const LARGEST_NUMBER: u64 = 2147483647;
-
-// "A text has at most 2,147,483,647 bytes."
-pub const LONGEST_TEXT: usize = 2147483647;
 
 // The states of a word: no byte yet; one more than the number that it is; no number.
 pub const NO_BYTE: u64 = 0;

@@ -2,11 +2,11 @@
 use mathlib.Core.Path.{_≡_, refl, sym, _∙_}
 use mathlib.Core.Bool.{true, false}
 use mathlib.Core.List.{List, [], _∷_, map}
-use Prim.Native.Nat.{ℕ, suc, _+_, _-_, _<_, _≤_}
+use Prim.Native.Nat.{ℕ, zero, suc, _+_, _-_, _<_, _≤_}
 use native.Mathlib.Numerals.{add-one}
 use native.Mathlib.Omega.{arith}
-use Rattle.clauses.specs.Lists.{numbers}
-use Rattle.clauses.specs.Answers.{Answer, Check, first-failing}
+use Rattle.answers.specs.Lists.{numbers}
+use Rattle.answers.specs.Answers.{Answer, Check, first-failing}
 use Rattle.witness.specs.declared.WitnessAnswer.{WitnessAnswer}
 use Rattle.witness.specs.declared.WitnessAnswer.the-variants.{Yes}
 use Rattle.witness.specs.Promise.{answer-then, AnsweredBy}
@@ -48,3 +48,10 @@ module _ (f : ℕ → Check) (n : ℕ) where
 
   pub numbers-end : (i : ℕ) → n ≤ i → from-number i ≡ []
   numbers-end i l = let e : n - i ≡ 0 = omega arith in rw e
+
+  -- The numbers before one pass.
+  pub passed-before : (i : ℕ) → i ≤ n → ((j : ℕ) → j < i → f j .passes ≡ true) → PassedUpTo (map f (numbers 0 n)) (from-number i)
+  passed-before zero l passed = number-none
+  passed-before (suc i) l passed =
+      rw (add-one i) at
+      (pass-one (passed-before i (omega arith) (λ j h. passed j (omega arith))) (number-first i l) (passed i (omega arith)))

@@ -9,10 +9,10 @@ use lib.ListN.{length}
 use denote.Enum.Declared.{tagOf}
 use types.Run.{OneOf, miss}
 use borrow.Author.Tests.{leb-true, eqb-true}
-use Rattle.clauses.specs.Lists.{all-of, numbered}
-use Rattle.clauses.specs.Answers.{Answer, Check, first-failing, granted}
-use Rattle.clauses.proofs.Satisfaction.{first-true, second-true}
-use Rattle.clauses.proofs.Answers.{passing, first-failing-append, place-of}
+use Rattle.answers.specs.Lists.{all-of, numbered}
+use Rattle.answers.specs.Answers.{Answer, Check, first-failing, granted}
+use Rattle.answers.proofs.Tests.{first-true, second-true}
+use Rattle.answers.proofs.Answers.{passing, first-failing-append, place-of}
 use Rattle.meaning.specs.Problem.{Problem, problem}
 use Rattle.meaning.specs.Witnesses.{witness-length, byte, byte-checks, reset-checks, loop-checks, position-checks, formula-checks, shape}
 use Rattle.meaning.specs.Calls.{judge-bytes, judge-witness}

@@ -3,9 +3,9 @@ use mathlib.Core.Path.{_≡_, refl, sym, _∙_}
 use mathlib.Core.List.{List, [], _∷_}
 use Prim.Native.Nat.{ℕ}
 use native.Mathlib.Omega.{arith}
-use Rattle.clauses.specs.Answers.{Answer}
-use Rattle.clauses.proofs.Answers.{number-of, place-of}
-use Rattle.meaning.specs.Limits.{inputs-limit, latches-limit, gates-limit, nodes-limit, bound-limit, constraints-limit}
+use Rattle.answers.specs.Answers.{Answer}
+use Rattle.answers.proofs.Answers.{number-of, place-of}
+use Rattle.answers.specs.Limits.{inputs-limit, latches-limit, gates-limit, nodes-limit, bound-limit, constraints-limit}
 use Rattle.meaning.specs.Problem.{header-words, problem-by, problem}
 use Rattle.meaning.specs.Runs.{values, next-values, meets-constraints}
 use Rattle.meaning.specs.Formulas.{formula}

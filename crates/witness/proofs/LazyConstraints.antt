@@ -1,7 +1,7 @@
 -- Judges of a witness that ask the constraints wrongly do not meet the promise: for each an input, and what it answers there. Assumes nothing.
 use mathlib.Core.Path.{_≡_, refl}
 use mathlib.Core.List.{List, [], _∷_, _++_}
-use Prim.Native.Nat.{ℕ, _+_}
+use Prim.Native.Nat.{ℕ}
 use native.Mathlib.Omega.{arith}
 use lib.ListN.{length}
 use Rattle.meaning.specs.Cases.{stuck}

@@ -25,6 +25,25 @@ pub matching-inputs-beside-a-latch-breaks : (i : ℕ) → Wrong inputs-and-latch
 unfolding laid-down
 matching-inputs-beside-a-latch-breaks i = other-number inputs-and-latch (OpenLoop i) refl (λ e. omega arith)
 
+-- ════════ The loop compared with the latches at 0 ════════
+
+-- F G 2 with a latch that starts at 0 and is 1 from then on, k = 1: 0 1 0 3 1, 1 0, 0 2 0, 5 0 0, 4 1 0; bytes 2 0: the loop from 1 closes there, and
+-- not at 0
+abbrev pub loop-from-1 : Input
+loop-from-1 = over (0 ∷ 1 ∷ 0 ∷ 3 ∷ 1 ∷ 1 ∷ 0 ∷ 0 ∷ 2 ∷ 0 ∷ 5 ∷ 0 ∷ 0 ∷ 4 ∷ 1 ∷ 0 ∷ []) (2 ∷ 0 ∷ []) Yes
+
+pub loop-closed-at-0-only-breaks : (i : ℕ) → Wrong loop-from-1 (OpenLoop i)
+unfolding laid-down
+loop-closed-at-0-only-breaks i = other-number loop-from-1 (OpenLoop i) refl (λ e. omega arith)
+
+-- H with F 12 at k = 3, and 2 0 0: after 3 the latches are those at 0, and the loop starts at 1
+abbrev pub H-closed-at-0 : Input
+H-closed-at-0 = over (H 2 3 (0 ∷ 12 ∷ 0 ∷ 4 ∷ 0 ∷ 0 ∷ [])) (2 ∷ 0 ∷ 0 ∷ []) (OpenLoop 0)
+
+pub loop-at-another-row-breaks : Wrong H-closed-at-0 Yes
+unfolding laid-down
+loop-at-another-row-breaks = other-number H-closed-at-0 Yes refl (λ e. omega arith)
+
 -- ════════ Round the loop ════════
 
 -- H with G F 6 at k = 3, and 1 0 0: literal 6 is true at 1 only, so from 2 and 3 on it comes again before them

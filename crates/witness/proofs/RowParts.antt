@@ -8,7 +8,7 @@ use native.Mathlib.Numerals.{add-one}
 use native.Mathlib.Omega.{arith}
 use lib.ListN.{length, take, drop, set}
 use lib.Seq.{take-suc-set}
-use Rattle.meaning.specs.Limits.{inputs-limit, latches-limit, gates-limit, bound-limit}
+use Rattle.answers.specs.Limits.{inputs-limit, latches-limit, gates-limit, bound-limit}
 use Rattle.meaning.specs.Problem.{Problem}
 use Rattle.meaning.specs.Runs.{values}
 use Rattle.meaning.specs.Witnesses.{bits, inputs-at, position}
@@ -16,10 +16,11 @@ use Rattle.pairing.proofs.Runs.{position-first, position-inputs, position-next}
 use Rattle.problem.specs.declared.Outline.{Outline}
 use Rattle.problem.specs.Promise.{problem-in}
 use Rattle.problem.proofs.Outlines.{Shows, shows, bound-small}
-use Rattle.witness.specs.Tables.{RowRoom, RowReady, RowsRight, row-width, row-in, given-width, row-latches-from, next-in}
-use Rattle.witness.specs.Values.{gates-put}
-use Rattle.witness.proofs.RowGates.{gates-there}
-use Rattle.witness.proofs.RowLaws.{beginning-stays, rows-kept, next-are, one-more-row}
+use Rattle.witness.specs.ShownRun.{RowRoom, RowReady, row-latches-from}
+use Rattle.values.specs.Tables.{RowsRight, row-width, row-in, given-width, next-in}
+use Rattle.values.specs.Values.{gates-put}
+use Rattle.values.proofs.RowGates.{gates-there}
+use Rattle.values.proofs.RowLaws.{beginning-stays, rows-kept, next-are, one-more-row}
 
 -- ════════ Variable 0 and the inputs ════════
 

@@ -1,27 +1,22 @@
--- What the first byte and the table of a shown run say: its shape, and each latch's value and next value. Assumes nothing.
-use mathlib.Core.Path.{_≡_, refl, sym, _∙_, ap}
+-- What the table of a shown run says: each latch's value and next value. Assumes nothing.
+use mathlib.Core.Path.{_≡_, sym, _∙_, ap}
 use mathlib.Core.Bool.{Bool, false}
 use mathlib.Core.List.{List}
-use Prim.Native.Nat.{ℕ, zero, suc, _+_, _*_, _-_, _<_, _≤_}
+use Prim.Native.Nat.{ℕ, _+_, _*_, _<_, _≤_}
 use native.Mathlib.Omega.{arith}
 use lib.ListN.{drop, getD}
 use lib.Seq.{getD-take, getD-drop}
 use Rattle.meaning.specs.Problem.{Problem, latch, latch-variable, W}
 use Rattle.meaning.specs.Runs.{next-values, literal-value}
-use Rattle.meaning.specs.Bounded.{lasso}
-use Rattle.meaning.specs.Witnesses.{position, shape-of}
+use Rattle.meaning.specs.Witnesses.{position}
 use Rattle.pairing.proofs.Runs.{position-inputs, length-inputs-at, length-latches}
 use Rattle.pairing.proofs.Gates.{values-latch}
 use Rattle.problem.specs.declared.Outline.{Outline}
 use Rattle.problem.specs.Promise.{problem-in}
 use Rattle.problem.proofs.Outlines.{Shows, shows}
-use Rattle.witness.specs.Tables.{RunShown, row-width, row-in}
-use Rattle.witness.proofs.RowLaws.{wide-enough, next-value-in}
-
--- "0 for a prefix or l + 1"
-pub shape-later : (b : ℕ) → (b ≡ 0 → ⊥) → shape-of b ≡ lasso (b - 1)
-shape-later zero some = absurd (some refl)
-shape-later (suc b) some = let e : suc b - 1 ≡ b = omega arith in rw e
+use Rattle.witness.specs.ShownRun.{RunShown}
+use Rattle.values.specs.Tables.{row-width, row-in}
+use Rattle.values.proofs.RowLaws.{wide-enough, next-value-in}
 
 module _ {s : Outline} {ws bs : List ℕ} {table : List Bool} (run : RunShown s ws bs table) where
   abbrev p : Problem

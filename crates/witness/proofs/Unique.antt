@@ -3,7 +3,7 @@ use mathlib.Core.Path.{_≡_, refl, sym, _∙_, ap}
 use mathlib.Core.List.{List, [], _∷_}
 use Prim.Native.Nat.{ℕ}
 use lib.ListN.{getD}
-use Rattle.clauses.specs.Answers.{Answer}
+use Rattle.answers.specs.Answers.{Answer}
 use Rattle.meaning.specs.Calls.{judge-witness}
 use Rattle.problem.specs.declared.Refusal.the-variants.{BadVersion, BadLength, OutsideLimits, BadReset, BadLiteral, BadNode}
 use Rattle.witness.specs.declared.WitnessAnswer.{WitnessAnswer}

@@ -1,4 +1,3 @@
 -- What the judge of a witness promises, and what its tables hold.
-pub mod Tables
-pub mod Values
+pub mod ShownRun
 pub mod Promise

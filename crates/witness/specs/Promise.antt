@@ -3,10 +3,9 @@ use mathlib.Core.List.{List}
 use mathlib.Core.Path.{_≡_}
 use Prim.Native.Nat.{ℕ}
 use lib.Dec.{leb}
-use Rattle.clauses.specs.Answers.{Answer, Check, check, first-failing, granted}
-use Rattle.meaning.specs.Answers.{bad-witness, against-reset, open-loop, constraint-broken, formula-false}
+use Rattle.answers.specs.Answers.{Answer, Check, check, first-failing, granted, bad-witness, against-reset, open-loop, formula-false}
+use Rattle.meaning.specs.Witnesses.{constraint-broken, byte-limit}
 use Rattle.meaning.specs.Problem as problems
-use Rattle.meaning.specs.Witnesses.{byte-limit}
 use Rattle.problem.specs.Promise.{refusal-answer}
 use Rattle.witness.specs.declared.WitnessAnswer.{WitnessAnswer}
 use Rattle.witness.specs.declared.WitnessAnswer.the-variants.{Yes, Problem, BadWitness, AgainstReset, OpenLoop, ConstraintBroken, FormulaFalse}

@@ -1,32 +1,26 @@
 // The checks of a witness's bytes, of its first latches, of its loop and of its positions, in the documents' order.
 use crate::WitnessAnswer;
-use crate::rows::INPUTS_AT;
-use crate::rows::LATCHES_AT;
-use crate::rows::ROW_WIDTH;
-use crate::rows::TRUE;
-use crate::rows::meets_constraints;
-use crate::rows::next_value;
+use crate::run::TRUE;
 use problem::Outline;
 use problem::read::latch_reset;
-ghost use mathlib.Core.Bool.{Bool·beq};
+use values::bytes::LATCHES_AT;
+use values::bytes::witness_length;
+use values::latches::first_open;
+use values::rows::INPUTS_AT;
+use values::rows::ROW_WIDTH;
+use values::rows::meets_constraints;
 ghost use mathlib.Core.List.{List};
 ghost use mathlib.Core.Path.{_≡_};
 ghost use Prim.Native.Nat.{ℕ, _≤_};
 ghost use lib.ListN.{length};
-ghost use Rattle.clauses.specs.Lists.{numbered};
-ghost use Rattle.meaning.specs.Limits.{inputs-limit, bound-limit};
+ghost use Rattle.answers.specs.Lists.{numbered};
+ghost use Rattle.answers.specs.Limits.{inputs-limit, latches-limit, bound-limit};
 ghost use Rattle.meaning.specs.Runs.{meets-reset};
 ghost use Rattle.meaning.specs.Witnesses.{witness-length, byte-limit, byte-checks, reset-checks, loop-checks, position-checks, shape};
 ghost use Rattle.problem.specs.Promise.{problem-in};
-ghost use Rattle.witness.specs.Tables.{RunShown, rows-room};
+ghost use Rattle.witness.specs.ShownRun.{RunShown};
+ghost use Rattle.values.specs.Tables.{rows-room};
 ghost use Rattle.witness.specs.Promise.{AnsweredBy, byte-check};
-
-fn witness_length(s: Outline) -> usize
-    requires { ⌜ (s .inputs ≤ inputs-limit) × (s .bound ≤ bound-limit) ⌝ }
-    ensures { λ r. ⌜ ((ws : List ℕ) → r ≡ witness-length (problem-in s ws)) ⌝ }
-{
-    LATCHES_AT + (s.latches as usize) + (s.inputs as usize) * (s.bound as usize + 1)
-}
 
 // "Apart from the first, bytes are 0 or 1."
 fn byte_limit(s: Outline, i: usize) -> u32
@@ -52,7 +46,7 @@ fn each_byte(s: Outline, witness: &[u8]) -> WitnessAnswer
 
 // 7: "the length comes first, then the bytes in order".
 pub(crate) fn bytes_right(s: Outline, witness: &[u8]) -> WitnessAnswer
-    requires { ⌜ (s .inputs ≤ inputs-limit) × (s .bound ≤ bound-limit) ⌝ }
+    requires { ⌜ (s .inputs ≤ inputs-limit) × (s .latches ≤ latches-limit) × (s .bound ≤ bound-limit) ⌝ }
     ensures { λ r. ⌜ ((ws : List ℕ) → AnsweredBy (byte-checks (problem-in s ws) (now (witness .entry))) r) ⌝ }
 {
     if witness.len() != witness_length(s) {
@@ -88,12 +82,6 @@ pub(crate) fn resets(words: &[u32], s: Outline, witness: &[u8]) -> WitnessAnswer
     WitnessAnswer::Yes
 }
 
-fn same(a: bool, b: bool) -> bool
-    ensures { λ r. ⌜ r ≡ Bool·beq a b ⌝ }
-{
-    if a { b } else { !b }
-}
-
 // 9: the first latch whose next value at k is not its value at l.
 pub(crate) fn closes(words: &[u32], s: Outline, witness: &[u8], table: &[bool]) -> WitnessAnswer
     requires { ⌜ RunShown s (now words) (now witness) (now table) ⌝ }
@@ -103,14 +91,12 @@ pub(crate) fn closes(words: &[u32], s: Outline, witness: &[u8], table: &[bool]) 
     if first == 0 {
         return WitnessAnswer::Yes;
     }
+    let last = (s.bound as usize) * ROW_WIDTH;
+    let end = last + ROW_WIDTH;
     let from = (first - 1) * ROW_WIDTH + INPUTS_AT + (s.inputs as usize);
-    let mut i: u32 = 0;
-    while i < s.latches {
-        let at = from + (i as usize);
-        if !same(next_value(words, s, table, s.bound, i), table[at]) {
-            return WitnessAnswer::OpenLoop(i as usize);
-        }
-        i += 1;
+    let open = first_open(words, s, &table[last..end], table, from);
+    if open < s.latches {
+        return WitnessAnswer::OpenLoop(open as usize);
     }
     WitnessAnswer::Yes
 }

@@ -4,18 +4,18 @@ use crate::bytes::bytes_right;
 use crate::bytes::closes;
 use crate::bytes::constraints;
 use crate::bytes::resets;
-use crate::nodes::formula_value;
-use crate::rows::ROWS;
-use crate::rows::run;
+use crate::run::run;
 use problem::Checked;
 use problem::Outline;
 use problem::check::check;
+use values::nodes::formula_value;
+use values::rows::ROWS;
 ghost use mathlib.Core.List.{_++_};
 ghost use mathlib.Core.Path.{_≡_};
 ghost use Rattle.meaning.specs.Witnesses.{shape, loop-checks, position-checks, formula-checks};
 ghost use Rattle.meaning.specs.Calls.{judge-bytes, judge-witness};
 ghost use Rattle.problem.specs.Promise.{problem-in, ProperIn};
-ghost use Rattle.witness.specs.Tables.{RunShown};
+ghost use Rattle.witness.specs.ShownRun.{RunShown};
 ghost use Rattle.witness.specs.Promise.{AnsweredBy, answer-of};
 
 // 9, 20 and 10, off the table of the run.

@@ -4,8 +4,7 @@ use problem::Refusal;
 pub mod answer;
 mod bytes;
 pub mod judge;
-pub mod nodes;
-pub mod rows;
+mod run;
 
 // The documents' answers to a witness; `answer` gives the number and the place of each.
 pub enum WitnessAnswer {

@@ -1,6 +1,6 @@
 -- `print_cnf::text_of` meets its contract: the room holds every text, so that no answer is short. Assumes nothing.
 use borrow.Author.Needs.{needs}
-use Rattle.meaning.specs.Limits.{program-room}
+use Rattle.answers.specs.Limits.{program-room}
 use Rattle.job_file.specs.Text.{text-limit}
 use Rattle.job_file.proofs.Prints.{text-first, bytes-within}
 use Rattle.job_file.proofs.TextRoom.{never-short}

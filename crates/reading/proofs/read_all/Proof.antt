@@ -1,6 +1,6 @@
 -- `read_all` meets its contract: before each turn the bytes past those that were read are as they were. Assumes nothing.
 use mathlib.Core.Path.{_≡_, refl, _∙_}
-use Prim.Native.Nat.{_+_, _-_}
+use Prim.Native.Nat.{ℕ, _+_, _-_}
 use native.Mathlib.Omega.{arith}
 use borrow.Author.Needs.{needs}
 use lib.ListN.{length}
@@ -13,6 +13,23 @@ Inv-loop fd buf₀ chunk₀ done₀ buf chunk done = Past done buf₀ buf
 
 abbrev μ-loop : tie.MeasureT-loop
 μ-loop fd buf₀ chunk₀ done₀ buf chunk done = length buf - done
+
+-- ════════ The points ════════
+
+abbrev start : tie.At-loop Inv-loop μ-loop → tie.Start Inv-loop μ-loop
+start c = c .before .before .before .before
+
+abbrev turn : tie.After-read-at Inv-loop μ-loop → tie.At-loop Inv-loop μ-loop
+turn c = c .before .before .before .before
+
+-- The read, by where both slices are given back, and by where it is known to have answered bytes.
+abbrev one-read : tie.After-slice-known3 Inv-loop μ-loop → tie.After-read-at Inv-loop μ-loop
+one-read c = c .before .before .before .before
+
+abbrev bytes-read : tie.After-known-told Inv-loop μ-loop → tie.After-read-at Inv-loop μ-loop
+bytes-read c = one-read (c .before .before .before)
+
+-- ════════ The needs ════════
 
 buffer-requires : tie.Need-buffer-requires Inv-loop μ-loop
 buffer-requires c κs = search needs
@@ -34,26 +51,25 @@ enum-told c = search needs
 
 same-length : tie.Need-same-length Inv-loop μ-loop
 same-length c =
-    let turn = c .before .before .before .before .before .before .before in
-    turn .read-at .kept .1 .0 ∙ turn .before .before .before .before .loop .inv .1
+    let r = one-read (c .before .before .before) in
+    r .read-at .kept .1 .0 ∙ turn r .loop .inv .1
 
 returns : tie.Need-returns Inv-loop μ-loop
 returns c = tt
 
--- The turn that a read belongs to, and the function's entry.
-abbrev turn : tie.After-known-told Inv-loop μ-loop → tie.At-loop Inv-loop μ-loop
-turn t = t .before .before .before .before .before .before .before .before .before .before .before
-
-abbrev start : tie.After-known-told Inv-loop μ-loop → tie.Start Inv-loop μ-loop
-start t = turn t .before .before .before .before
+-- How many bytes a read has answered.
+abbrev count : tie.After-known-told Inv-loop μ-loop → ℕ
+count t = t .before .more .given .0 .0
 
 -- What is known of the buffer where a read has answered bytes.
 more-read : (t : tie.After-known-told Inv-loop μ-loop)
-    → Past (turn t .loop .done + t .before .more .given .0 .0) (start t .args .buf .now) (t .before .before .before .before .before .before .before .read-at .last .1 .0)
+    → let r = bytes-read t in Past (turn r .loop .done + count t) (start (turn r) .args .buf .now) (r .read-at .last .1 .0)
 more-read t =
-    let one-read = t .before .before .before .before .before .before .before .read-at in
-    read-more (turn t .loop .done) (t .before .more .given .0 .0) (start t .args .buf .now) (turn t .loop .buf) (one-read .last .1 .1 .1 .0)
-    (one-read .last .1 .0) (one-read .result) (t .before .more .given .1) (turn t .loop .inv) (one-read .ensures)
+    let r = bytes-read t in
+    let here = turn r in
+    let call = r .read-at in
+    read-more (here .loop .done) (count t) (start here .args .buf .now) (here .loop .buf) (call .last .1 .1 .1 .0) (call .last .1 .0) (call .result)
+    (t .before .more .given .1) (here .loop .inv) (call .ensures)
 
 add-done : tie.Need-add-done Inv-loop μ-loop
 add-done c =
@@ -80,7 +96,8 @@ same-length-3 c = more-read (c .before .before) .1
 returns-3 : tie.Need-returns-3 Inv-loop μ-loop
 returns-3 c =
     let t = c .before .before in
-    let none : turn t .loop .done + t .before .more .given .0 .0 ≡ turn t .loop .done = omega arith in
+    let done = turn (bytes-read t) .loop .done in
+    let none : done + count t ≡ done = omega arith in
     let past = rw none at (more-read t) in
     (past .0, past .2)
 

@@ -1,12 +1,52 @@
--- `read_at` meets its contract: what was read into the chunk is copied to the buffer, and nothing more. Assumes nothing.
+-- `read_at` meets its contract: what was read into the chunk is put into the buffer, and nothing more. Assumes nothing.
 use mathlib.Core.Path.{refl}
-use Prim.Native.Nat.{_≤_}
+use Prim.Native.Nat.{ℕ, _+_, _≤_}
 use native.Mathlib.Omega.{arith}
 use borrow.Author.Needs.{needs}
 use lib.ListN.{length}
-use Rattle.reading.proofs.Readings.{bytes-within, joined-long}
+use Rattle.reading.proofs.Readings.{bytes-within, joined-long, put-paste}
 use Rattle.reading.proofs.read_at.Statement.{statement}
 use Rattle.reading.proofs.read_at.Tie as tie
+
+-- ════════ The points ════════
+
+abbrev start : tie.After-least → tie.Start
+start c = c .before .before .before
+
+-- The read, by where it is known to have answered bytes.
+abbrev one-read : tie.After-more → tie.After-read-part
+one-read c = c .before .before .before .before
+
+abbrev entry : tie.After-more → tie.Start
+entry c = start (one-read c .before .before)
+
+abbrev bytes-read : tie.After-got → tie.After-more
+bytes-read c = c .before .before
+
+abbrev lent : tie.After-put-bytes → tie.After-got
+lent c = c .before .before .before
+
+-- ════════ The bytes that were read ════════
+
+module _ (c : tie.After-more) where
+  abbrev count : ℕ
+  count = c .more .given .0 .0
+
+  in-chunk : count ≤ length (one-read c .read-part .last .1 .0)
+  in-chunk =
+      let read = one-read c .read-part in
+      let count-in = bytes-within (c .more .given .1) (read .ensures) in
+      let kept = read .kept .1 .0 in
+      omega arith
+
+  in-buffer : entry c .args .at + count ≤ length (entry c .args .buf .now)
+  in-buffer =
+      let read = one-read c .read-part in
+      let count-in = bytes-within (c .more .given .1) (read .ensures) in
+      let kept = read .kept .1 .0 in
+      omega arith
+
+-- ════════ The needs ════════
 
 sub-least : tie.Need-sub-least
 sub-least c = search needs
@@ -29,14 +69,19 @@ read-part-requires c κs = search needs
 enum-known-more : tie.Need-enum-known-more
 enum-known-more c = search needs
 
-copy-requires : tie.Need-copy-requires
-copy-requires c κs =
-    let t = c .before .before .before in
-    let one-read = t .before .before .before .before .read-part in
-    let count-in = bytes-within (t .more .given .1) (one-read .ensures) in
-    let kept = one-read .kept .1 .0 in
-    let in-chunk : t .more .given .0 .0 ≤ length (one-read .last .1 .0) = omega arith in
-    (joined-long (one-read .last .1 .0) _ in-chunk, omega arith)
+sub-put-bytes : tie.Need-sub-put-bytes
+sub-put-bytes c = search needs
+
+part-put-bytes-start : tie.Need-part-put-bytes-start
+part-put-bytes-start c = search needs
+
+part-put-bytes-end : tie.Need-part-put-bytes-end
+part-put-bytes-end c =
+    let t = bytes-read c in
+    joined-long (one-read t .read-part .last .1 .0) _ (in-chunk t)
+
+put-bytes-requires : tie.Need-put-bytes-requires
+put-bytes-requires c κs = search needs
 
 enum-told : tie.Need-enum-told
 enum-told c = search needs
@@ -49,9 +94,10 @@ same-length-2 c = search needs
 
 returns : tie.Need-returns
 returns c =
-    let copied = c .before .before in
-    let within = copy-requires (copied .before) (copied .copy .lifetimes) in
-    (within .0, within .1, copied .copy .ensures)
+    let put = c .before .before in
+    let fits = part-put-bytes-end (lent put) in
+    let room = in-buffer (bytes-read (lent put)) in
+    (fits, room, put-paste _ _ _ fits room (put .put-bytes .ensures))
 
 same-length-3 : tie.Need-same-length-3
 same-length-3 c = search needs
@@ -70,7 +116,10 @@ read-at-spec =
     part-read-part-end
     read-part-requires
     enum-known-more
-    copy-requires
+    sub-put-bytes
+    part-put-bytes-start
+    part-put-bytes-end
+    put-bytes-requires
     enum-told
     same-length
     same-length-2

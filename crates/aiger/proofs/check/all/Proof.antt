@@ -4,7 +4,7 @@ use native.Mathlib.Omega.{arith}
 use borrow.Author.Needs.{needs}
 use Rattle.aiger.specs.Reads.{sizes-of, count-of}
 use Rattle.aiger.specs.Writes.{checks-of}
-use Rattle.aiger.proofs.Answered.{PassedTo, passed-none, passed-more, passed-all, refused-at, is-passed, answers-by}
+use Rattle.problem.proofs.Answered.{PassedTo, passed-none, passed-more, passed-all, refused-at, is-passed, answers-by}
 use Rattle.aiger.proofs.check.all.Statement.{statement}
 use Rattle.aiger.proofs.check.all.Tie as tie
 

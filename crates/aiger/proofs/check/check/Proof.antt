@@ -3,12 +3,12 @@ use mathlib.Core.Path.{sym, subst}
 use mathlib.Core.List.{List, [], _∷_}
 use Prim.Native.Nat.{ℕ}
 use borrow.Author.Needs.{needs}
-use Rattle.clauses.specs.Answers.{Check}
+use Rattle.answers.specs.Answers.{Check}
+use Rattle.problem.specs.declared.parts.PartAnswer.the-variants.{Passed}
+use Rattle.problem.specs.CheckParts.{Answers}
 use Rattle.aiger.specs.Circuits.{header-checks, limit-checks, sizes, sized-parts}
-use Rattle.aiger.specs.declared.check.Part.the-variants.{Passed}
 use Rattle.aiger.specs.Reads.{Fitting}
-use Rattle.aiger.specs.Writes.{Answers}
-use Rattle.aiger.proofs.Answered.{is-passed, answers-by, passed-first, refused-first}
+use Rattle.problem.proofs.Answered.{is-passed, answers-by, passed-first, refused-first}
 use Rattle.aiger.proofs.CheckedCircuit.{fitting-if-passed}
 use Rattle.aiger.proofs.check.check.Statement.{statement}
 use Rattle.aiger.proofs.check.check.Tie as tie

@@ -1,8 +1,8 @@
 -- `limits` meets its contract: one line a limit. Assumes nothing.
 use borrow.Author.Needs.{needs}
-use Rattle.meaning.specs.Limits.{inputs-limit, latches-limit, gates-limit, outputs-limit}
+use Rattle.answers.specs.Limits.{inputs-limit, latches-limit, gates-limit, outputs-limit}
 use Rattle.aiger.specs.Circuits.{limit-checks}
-use Rattle.aiger.proofs.Answered.{as-one}
+use Rattle.problem.proofs.Answered.{as-one}
 use Rattle.aiger.proofs.check.limits.Statement.{statement}
 use Rattle.aiger.proofs.check.limits.Tie as tie
 

@@ -5,7 +5,7 @@ use mathlib.Core.Path.{_≡_}
 use Prim.Native.Nat.{_-_, _≤_, _<_}
 use native.Mathlib.Omega.{arith}
 use borrow.Author.Tests.{not-true, not-false}
-use Rattle.text.specs.Numbers.{largest-number}
+use Rattle.answers.specs.Limits.{largest-number}
 use Rattle.text.specs.Readings.{at-most}
 use Rattle.text.specs.Promise.{no-number}
 use Rattle.aiger.proofs.DueLaws.{fault-keeps, on-keeps, wrong-keeps, state-within, outside-none, at-most-found, at-most-wrong}

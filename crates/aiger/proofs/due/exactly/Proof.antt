@@ -3,7 +3,7 @@ use borrow.Author.Needs.{needs}
 use mathlib.Core.Bool.{true}
 use mathlib.Core.Path.{_≡_}
 use borrow.Author.Tests.{not-true, not-false}
-use Rattle.text.specs.Numbers.{largest-number}
+use Rattle.answers.specs.Limits.{largest-number}
 use Rattle.text.specs.Readings.{exactly}
 use Rattle.aiger.proofs.DueLaws.{fault-passes, on-passes, wrong-passes, exactly-found, exactly-wrong}
 use Rattle.aiger.proofs.due.exactly.Statement.{statement}

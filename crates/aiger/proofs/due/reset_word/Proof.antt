@@ -7,7 +7,7 @@ use Prim.Native.Nat.{ℕ, _≤_, _<_}
 use native.Mathlib.Omega.{arith}
 use borrow.Author.Tests.{not-true, not-false}
 use lib.ListN.{drop}
-use Rattle.text.specs.Numbers.{largest-number}
+use Rattle.answers.specs.Limits.{largest-number}
 use Rattle.text.specs.Readings.{found}
 use Rattle.text.specs.Promise.{no-number}
 use Rattle.aiger.specs.Texts.{reset-word}

@@ -6,9 +6,9 @@ use mathlib.Core.List.{map}
 use Prim.Native.Nat.{ℕ, _*_, _-_, _≤_, _<_}
 use native.Mathlib.Omega.{arith}
 use lib.ListN.{length}
-use Rattle.clauses.specs.Lists.{numbers}
+use Rattle.answers.specs.Lists.{numbers}
 use Rattle.text.specs.Readings.{Reader, in-turn}
-use Rattle.meaning.specs.Limits.{inputs-limit, latches-limit, gates-limit, outputs-limit}
+use Rattle.answers.specs.Limits.{inputs-limit, latches-limit, gates-limit, outputs-limit}
 use Rattle.aiger.specs.Reads.{sizes-of, count-of, due-of, Keeps}
 use Rattle.aiger.proofs.LinesLaws.{few, no-lines, one-line-more, all-read, stopped}
 use Rattle.aiger.proofs.lines.lines.Statement.{statement}
@@ -27,6 +27,10 @@ abbrev μ-loop : tie.MeasureT-loop
 
 abbrev start : tie.At-loop Inv-loop μ-loop → tie.Start Inv-loop μ-loop
 start c = c .before .before .before .before
+
+-- The turn in which a line was read.
+abbrev turn-of : tie.After-line Inv-loop μ-loop → tie.In-loop Inv-loop μ-loop
+turn-of c = c .before .before .before .before
 
 -- What is due in each line, and how many lines there are.
 abbrev due : tie.At-loop Inv-loop μ-loop → ℕ → Reader
@@ -67,7 +71,7 @@ line-requires c κs =
 add-i : tie.Need-add-i Inv-loop μ-loop
 unfolding inputs-limit latches-limit gates-limit outputs-limit
 add-i c =
-    let turn = c .before .before .before .before .before .before in
+    let turn = turn-of (c .before .before) in
     let from = start (turn .before) in
     omega (arith, below turn, few (from .args .kind) (from .pre .0))
 
@@ -77,7 +81,7 @@ loop-less c = omega arith
 loop-again : tie.Need-loop-again Inv-loop μ-loop
 loop-again c =
     let read = c .before .before in
-    let turn = read .before .before .before .before in
+    let turn = turn-of read in
     let at = turn .before in (
       one-line-more (due at) (at .loop .i) (at .loop .inv .0) (read .line .ensures),
       omega (arith, turn .loop-test .taken),

@@ -4,9 +4,8 @@ use mathlib.Core.Path.{_≡_, _∙_}
 use mathlib.Core.List.{List, [], _∷_}
 use Prim.Native.Nat.{ℕ, _+_, _≤_, _<_}
 use native.Mathlib.Omega.{arith}
-use Rattle.text.specs.Numbers.{largest-number}
+use Rattle.answers.specs.Limits.{largest-number, inputs-limit, latches-limit, gates-limit, outputs-limit}
 use Rattle.text.specs.Readings.{Reader, space, at-most}
-use Rattle.meaning.specs.Limits.{inputs-limit, latches-limit, gates-limit, outputs-limit}
 use Rattle.aiger.proofs.LinesLaws.{all-followed, read-on}
 use Rattle.aiger.proofs.lines.opening.Statement.{statement}
 use Rattle.aiger.proofs.lines.opening.Tie as tie

@@ -5,6 +5,19 @@ use Rattle.aiger.proofs.Delivered.{put-by, delivered}
 use Rattle.aiger.proofs.read.deliver.Statement.{statement}
 use Rattle.aiger.proofs.read.deliver.Tie as tie
 
+-- The points: the header is put, then the latches, the gates, the outputs.
+abbrev gates-put : tie.After-copy4 → tie.After-copy3
+gates-put c = c .before .before .before .before .before
+
+abbrev latches-put : tie.After-copy3 → tie.After-copy2
+latches-put c = c .before .before .before .before .before
+
+abbrev header-put : tie.After-copy2 → tie.After-copy
+header-put c = c .before .before .before .before .before
+
+abbrev entry : tie.After-copy → tie.Start
+entry c = c .before .before .before .before .before .before .before .before
+
 cast-outputs : tie.Need-cast-outputs
 cast-outputs c = search needs
 
@@ -80,10 +93,10 @@ same-length c = search needs
 returns : tie.Need-returns
 returns c =
     let fourth = c .before .before in
-    let third = fourth .before .before .before .before .before in
-    let second = third .before .before .before .before .before in
-    let first = second .before .before .before .before .before in
-    let start = first .before .before .before .before .before .before .before .before in
+    let third = gates-put fourth in
+    let second = latches-put third in
+    let first = header-put second in
+    let start = entry first in
     delivered (sizes-of (start .args .s)) (start .args .table .now) (start .args .room .now) (start .pre .1) (start .pre .2)
     (put-by (first .copy .ensures))
     (put-by (second .copy2 .ensures))

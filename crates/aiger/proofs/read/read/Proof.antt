@@ -6,8 +6,7 @@ use Prim.Native.Nat.{ℕ, _≤_}
 use native.Mathlib.Omega.{arith}
 use lib.ListN.{length, take}
 use lib.Seq.{length-take-le}
-use Rattle.text.specs.Numbers.{longest-text}
-use Rattle.meaning.specs.Limits.{inputs-limit, latches-limit, outputs-limit, gates-limit}
+use Rattle.answers.specs.Limits.{longest-text, inputs-limit, latches-limit, outputs-limit, gates-limit}
 use Rattle.aiger.specs.Circuits as circuits
 use Rattle.aiger.specs.Circuits.{words-in-all}
 use Rattle.aiger.specs.Texts.{in-order}

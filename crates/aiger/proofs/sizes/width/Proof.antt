@@ -1,7 +1,7 @@
 -- `width` meets its contract: the sizes are within their limits. Assumes nothing.
 use borrow.Author.Needs.{needs}
 use native.Mathlib.Omega.{arith}
-use Rattle.meaning.specs.Limits.{inputs-limit, latches-limit, gates-limit}
+use Rattle.answers.specs.Limits.{inputs-limit, latches-limit, gates-limit}
 use Rattle.aiger.proofs.sizes.width.Statement.{statement}
 use Rattle.aiger.proofs.sizes.width.Tie as tie
 

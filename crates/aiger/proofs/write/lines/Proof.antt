@@ -4,7 +4,7 @@ use mathlib.Core.List.{List}
 use Prim.Native.Nat.{ℕ, _-_, _≤_}
 use native.Mathlib.Omega.{arith}
 use borrow.Author.Needs.{needs}
-use Rattle.clauses.specs.Lists.{numbers, each}
+use Rattle.answers.specs.Lists.{numbers, each}
 use Rattle.aiger.specs.Reads.{sizes-of, count-of}
 use Rattle.aiger.specs.Writes.{line-of}
 use Rattle.aiger.proofs.LaidTexts.{Laid, nothing-laid, laid-one-more, laid-all}

@@ -11,6 +11,13 @@ use Rattle.aiger.proofs.write.next_and_reset.Tie as tie
 abbrev start : tie.After-put-ended2 → tie.Start
 start c = c .before .before .before .before
 
+-- A space is put before the reset, which is 1 or the own literal.
+abbrev parted-one : tie.After-put-ended3 → tie.After-put-ended2
+parted-one c = c .before .before .before .before .before
+
+abbrev parted-own : tie.After-put-ended4 → tie.After-put-ended2
+parted-own c = c .before .before .before .before .before
+
 next-put : (c : tie.After-put-ended2)
     → Laid (ended (start c .args .next) space-byte) (start c .args .at) (start c .args .out .now) (c .put-ended2 .result) (c .put-ended2 .last .1 .1 .1 .0)
 next-put c =
@@ -41,7 +48,7 @@ returns-2 : tie.Need-returns-2
 returns-2 c =
     let put = c .before .before in
     let one = put .before .before .if2 .taken in
-    let parted = put .before .before .before .before .before in
+    let parted = parted-one put in
     let not-zero = parted .before .before .if1 .left in
     rw (ne-eqb _ 0 not-zero, eq-eqb _ 1 one) (laid-put (next-put parted) (put .put-ended3 .kept .1 .1 .1 .0) (put .put-ended3 .ensures) .lays)
 
@@ -55,7 +62,7 @@ returns-3 : tie.Need-returns-3
 returns-3 c =
     let put = c .before .before in
     let not-one = put .before .before .if2 .left in
-    let parted = put .before .before .before .before .before in
+    let parted = parted-own put in
     let not-zero = parted .before .before .if1 .left in
     rw (ne-eqb _ 0 not-zero, ne-eqb _ 1 not-one) (laid-put (next-put parted) (put .put-ended4 .kept .1 .1 .1 .0) (put .put-ended4 .ensures) .lays)
 

@@ -1,6 +1,6 @@
 -- `write` meets its contract: the check, the text's length, the text. Assumes nothing.
 use borrow.Author.Needs.{needs}
-use Rattle.aiger.proofs.Answered.{is-passed, answers-by}
+use Rattle.problem.proofs.Answered.{is-passed, answers-by}
 use Rattle.aiger.proofs.CheckedCircuit.{GoodCircuit, good-if-passed}
 use Rattle.aiger.proofs.WrittenAnswers.{refused, fitting-as, short, done}
 use Rattle.aiger.proofs.write.write.Statement.{statement}

@@ -6,6 +6,24 @@ use Rattle.ask.proofs.CountWithin.{counted}
 use Rattle.ask.proofs.calls.judge_areas.Statement.{statement}
 use Rattle.ask.proofs.calls.judge_areas.Tie as tie
 
+-- ════════ The points ════════
+
+abbrev start : tie.After-next-count → tie.Start
+start c = c .before .before .before
+
+-- Where each count is asked for, by where it is known.
+abbrev numbers-asked : tie.After-known-told → tie.After-next-count
+numbers-asked t = t .before .before .before
+
+abbrev clauses-asked : tie.After-known-told3 → tie.After-next-count2
+clauses-asked t = t .before .before .before
+
+-- Where the first count is known, by where the second is.
+abbrev first : tie.After-known-told3 → tie.After-known-told
+first t = clauses-asked t .before
+
+-- ════════ The needs ════════
+
 next-count-requires : tie.Need-next-count-requires
 next-count-requires c κs = search needs
 
@@ -36,19 +54,11 @@ sub-judge-filled c = search needs
 part-judge-filled-start : tie.Need-part-judge-filled-start
 part-judge-filled-start c = search needs
 
--- The entry, by where the first count is known.
-abbrev start : tie.After-known-told → tie.Start
-start t = t .before .before .before .before .before .before
+numbers-within : (t : tie.After-known-told) → t .before .n .given .0 .0 ≤ length (start (numbers-asked t) .args .by-numbers .now)
+numbers-within t = counted (t .before .n .given .1) (numbers-asked t .next-count .ensures)
 
-numbers-within : (t : tie.After-known-told) → t .before .n .given .0 .0 ≤ length (start t .args .by-numbers .now)
-numbers-within t = counted (t .before .n .given .1) (t .before .before .before .next-count .ensures)
-
--- The first count's place, by where the second count is known.
-abbrev first : tie.After-known-told3 → tie.After-known-told
-first t = t .before .before .before .before
-
-clauses-within : (t : tie.After-known-told3) → t .before .n2 .given .0 .0 ≤ length (start (first t) .args .by-clauses .now)
-clauses-within t = counted (t .before .n2 .given .1) (t .before .before .before .next-count2 .ensures)
+clauses-within : (t : tie.After-known-told3) → t .before .n2 .given .0 .0 ≤ length (start (numbers-asked (first t)) .args .by-clauses .now)
+clauses-within t = counted (t .before .n2 .given .1) (clauses-asked t .next-count2 .ensures)
 
 part-judge-filled-end : tie.Need-part-judge-filled-end
 part-judge-filled-end c = numbers-within (first c)

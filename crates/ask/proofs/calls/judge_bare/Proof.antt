@@ -7,6 +7,24 @@ use Rattle.ask.specs.Capacities.{signed-words}
 use Rattle.ask.proofs.calls.judge_bare.Statement.{statement}
 use Rattle.ask.proofs.calls.judge_bare.Tie as tie
 
+-- ════════ The points ════════
+
+-- Where the words of each buffer are asked for, by where their count is known.
+abbrev words-asked : tie.After-known-told → tie.After-next-signed
+words-asked t = t .before .before .before
+
+abbrev steps-asked : tie.After-known-told3 → tie.After-next-signed2
+steps-asked t = t .before .before .before
+
+-- Where the CNF is known, by where the refutation is; and where that is, by where both are lent.
+abbrev first : tie.After-known-told3 → tie.After-known-told
+first t = steps-asked t .before .before .before
+
+abbrev second : tie.After-refutation2 → tie.After-known-told3
+second c = c .before .before .before .before
+
+-- ════════ The needs ════════
+
 next-signed-requires : tie.Need-next-signed-requires
 next-signed-requires c κs = search needs
 
@@ -38,17 +56,13 @@ part-judge-areas-start : tie.Need-part-judge-areas-start
 part-judge-areas-start c = search needs
 
 words-within : (t : tie.After-known-told) → t .before .n .given .0 .0 ≤ signed-words
-words-within t = counted (t .before .n .given .1) (t .before .before .before .next-signed .ensures)
+words-within t = counted (t .before .n .given .1) (words-asked t .next-signed .ensures)
 
 steps-within : (t : tie.After-known-told3) → t .before .n2 .given .0 .0 ≤ signed-words
-steps-within t = counted (t .before .n2 .given .1) (t .before .before .before .next-signed2 .ensures)
-
--- Where the CNF is known, by where the refutation is.
-abbrev first : tie.After-known-told3 → tie.After-known-told
-first t = t .before .before .before .before .before .before
+steps-within t = counted (t .before .n2 .given .1) (steps-asked t .next-signed2 .ensures)
 
 part-judge-areas-end : tie.Need-part-judge-areas-end
-part-judge-areas-end c = omega (arith, words-within (first (c .before .before .before .before)))
+part-judge-areas-end c = omega (arith, words-within (first (second c)))
 
 sub-judge-areas-2 : tie.Need-sub-judge-areas-2
 sub-judge-areas-2 c = search needs
@@ -57,9 +71,7 @@ part-judge-areas-start-2 : tie.Need-part-judge-areas-start-2
 part-judge-areas-start-2 c = search needs
 
 part-judge-areas-end-2 : tie.Need-part-judge-areas-end-2
-part-judge-areas-end-2 c =
-    let known = c .before .before .before .before .before in
-    omega (arith, steps-within known)
+part-judge-areas-end-2 c = omega (arith, steps-within (second (c .before)))
 
 judge-areas-requires : tie.Need-judge-areas-requires
 judge-areas-requires c κs = search needs

@@ -7,6 +7,24 @@ use Rattle.ask.specs.Capacities.{problem-words, signed-words}
 use Rattle.ask.proofs.calls.judge_refutation.Statement.{statement}
 use Rattle.ask.proofs.calls.judge_refutation.Tie as tie
 
+-- ════════ The points ════════
+
+-- Where the words of each buffer are asked for, by where their count is known.
+abbrev words-asked : tie.After-known-told → tie.After-next-words
+words-asked t = t .before .before .before
+
+abbrev steps-asked : tie.After-known-told3 → tie.After-next-signed
+steps-asked t = t .before .before .before
+
+-- Where the problem is known, by where the refutation is; and where that is, by where both are lent.
+abbrev first : tie.After-known-told3 → tie.After-known-told
+first t = steps-asked t .before .before .before
+
+abbrev second : tie.After-refutation2 → tie.After-known-told3
+second c = c .before .before .before .before
+
+-- ════════ The needs ════════
+
 next-words-requires : tie.Need-next-words-requires
 next-words-requires c κs = search needs
 
@@ -38,17 +56,13 @@ part-refute-within-start : tie.Need-part-refute-within-start
 part-refute-within-start c = search needs
 
 words-within : (t : tie.After-known-told) → t .before .n .given .0 .0 ≤ problem-words
-words-within t = counted (t .before .n .given .1) (t .before .before .before .next-words .ensures)
+words-within t = counted (t .before .n .given .1) (words-asked t .next-words .ensures)
 
 steps-within : (t : tie.After-known-told3) → t .before .n2 .given .0 .0 ≤ signed-words
-steps-within t = counted (t .before .n2 .given .1) (t .before .before .before .next-signed .ensures)
-
--- Where the problem is known, by where the refutation is.
-abbrev first : tie.After-known-told3 → tie.After-known-told
-first t = t .before .before .before .before .before .before
+steps-within t = counted (t .before .n2 .given .1) (steps-asked t .next-signed .ensures)
 
 part-refute-within-end : tie.Need-part-refute-within-end
-part-refute-within-end c = omega (arith, words-within (first (c .before .before .before .before)))
+part-refute-within-end c = omega (arith, words-within (first (second c)))
 
 sub-refute-within-2 : tie.Need-sub-refute-within-2
 sub-refute-within-2 c = search needs
@@ -57,9 +71,7 @@ part-refute-within-start-2 : tie.Need-part-refute-within-start-2
 part-refute-within-start-2 c = search needs
 
 part-refute-within-end-2 : tie.Need-part-refute-within-end-2
-part-refute-within-end-2 c =
-    let known = c .before .before .before .before .before in
-    omega (arith, steps-within known)
+part-refute-within-end-2 c = omega (arith, steps-within (second (c .before)))
 
 refute-within-requires : tie.Need-refute-within-requires
 refute-within-requires c κs = search needs

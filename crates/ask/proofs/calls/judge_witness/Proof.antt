@@ -8,6 +8,27 @@ use Rattle.ask.specs.Capacities.{problem-words}
 use Rattle.ask.proofs.calls.judge_witness.Statement.{statement}
 use Rattle.ask.proofs.calls.judge_witness.Tie as tie
 
+-- ════════ The points ════════
+
+abbrev start : tie.After-next-words → tie.Start
+start c = c .before .before .before
+
+-- Where the words and the bytes are asked for, by where their count is known.
+abbrev words-asked : tie.After-known-told → tie.After-next-words
+words-asked t = t .before .before .before
+
+abbrev bytes-asked : tie.After-known-told3 → tie.After-next-raw
+bytes-asked t = t .before .before .before
+
+-- Where the problem is known, by where the witness is; and where that is, by where both are lent.
+abbrev first : tie.After-known-told3 → tie.After-known-told
+first t = bytes-asked t .before .before
+
+abbrev second : tie.After-witness2 → tie.After-known-told3
+second c = c .before .before .before .before
+
+-- ════════ The needs ════════
+
 next-words-requires : tie.Need-next-words-requires
 next-words-requires c κs = search needs
 
@@ -39,17 +60,13 @@ part-judge-start : tie.Need-part-judge-start
 part-judge-start c = search needs
 
 words-within : (t : tie.After-known-told) → t .before .n .given .0 .0 ≤ problem-words
-words-within t = counted (t .before .n .given .1) (t .before .before .before .next-words .ensures)
+words-within t = counted (t .before .n .given .1) (words-asked t .next-words .ensures)
 
-bytes-within : (t : tie.After-known-told3) → t .before .n2 .given .0 .0 ≤ length (t .before .before .before .before .before .before .before .before .before .before .before .args .witness .now)
-bytes-within t = counted (t .before .n2 .given .1) (t .before .before .before .next-raw .ensures)
-
--- Where the problem is known, by where the witness is.
-abbrev first : tie.After-known-told3 → tie.After-known-told
-first t = t .before .before .before .before .before
+bytes-within : (t : tie.After-known-told3) → t .before .n2 .given .0 .0 ≤ length (start (words-asked (first t)) .args .witness .now)
+bytes-within t = counted (t .before .n2 .given .1) (bytes-asked t .next-raw .ensures)
 
 part-judge-end : tie.Need-part-judge-end
-part-judge-end c = omega (arith, words-within (first (c .before .before .before .before)))
+part-judge-end c = omega (arith, words-within (first (second c)))
 
 sub-judge-2 : tie.Need-sub-judge-2
 sub-judge-2 c = search needs
@@ -58,9 +75,7 @@ part-judge-start-2 : tie.Need-part-judge-start-2
 part-judge-start-2 c = search needs
 
 part-judge-end-2 : tie.Need-part-judge-end-2
-part-judge-end-2 c =
-    let known = c .before .before .before .before .before in
-    omega (arith, bytes-within known)
+part-judge-end-2 c = omega (arith, bytes-within (second (c .before)))
 
 judge-requires : tie.Need-judge-requires
 judge-requires c κs = search needs

@@ -6,6 +6,33 @@ use Rattle.ask.proofs.CountWithin.{counted}
 use Rattle.ask.proofs.calls.refute_within.Statement.{statement}
 use Rattle.ask.proofs.calls.refute_within.Tie as tie
 
+-- ════════ The points ════════
+
+abbrev start : tie.After-next-count → tie.Start
+start c = c .before .before .before .before
+
+-- Where each count is asked for, by where it is known.
+abbrev words-asked : tie.After-known-told → tie.After-next-count
+words-asked t = t .before .before .before
+
+abbrev numbers-asked : tie.After-known-told3 → tie.After-next-count2
+numbers-asked t = t .before .before .before
+
+abbrev clauses-asked : tie.After-known-told5 → tie.After-next-count3
+clauses-asked t = t .before .before .before
+
+-- Where the earlier counts are known, each by where the count after it is; and the entry.
+abbrev first : tie.After-known-told3 → tie.After-known-told
+first t = numbers-asked t .before
+
+abbrev second : tie.After-known-told5 → tie.After-known-told3
+second t = clauses-asked t .before
+
+abbrev entry : tie.After-known-told → tie.Start
+entry t = start (words-asked t)
+
+-- ════════ The needs ════════
+
 next-count-requires : tie.Need-next-count-requires
 next-count-requires c κs = search needs
 
@@ -48,24 +75,14 @@ sub-refute-filled c = search needs
 part-refute-filled-start : tie.Need-part-refute-filled-start
 part-refute-filled-start c = search needs
 
--- The entry and the earlier counts' places, each by where the count after it is known.
-abbrev start : tie.After-known-told → tie.Start
-start t = t .before .before .before .before .before .before .before
+words-within : (t : tie.After-known-told) → t .before .n .given .0 .0 ≤ length (entry t .args .room .now)
+words-within t = counted (t .before .n .given .1) (words-asked t .next-count .ensures)
 
-abbrev first : tie.After-known-told3 → tie.After-known-told
-first t = t .before .before .before .before
+numbers-within : (t : tie.After-known-told3) → t .before .n2 .given .0 .0 ≤ length (entry (first t) .args .by-numbers .now)
+numbers-within t = counted (t .before .n2 .given .1) (numbers-asked t .next-count2 .ensures)
 
-abbrev second : tie.After-known-told5 → tie.After-known-told3
-second t = t .before .before .before .before
-
-words-within : (t : tie.After-known-told) → t .before .n .given .0 .0 ≤ length (start t .args .room .now)
-words-within t = counted (t .before .n .given .1) (t .before .before .before .next-count .ensures)
-
-numbers-within : (t : tie.After-known-told3) → t .before .n2 .given .0 .0 ≤ length (start (first t) .args .by-numbers .now)
-numbers-within t = counted (t .before .n2 .given .1) (t .before .before .before .next-count2 .ensures)
-
-clauses-within : (t : tie.After-known-told5) → t .before .n3 .given .0 .0 ≤ length (start (first (second t)) .args .by-clauses .now)
-clauses-within t = counted (t .before .n3 .given .1) (t .before .before .before .next-count3 .ensures)
+clauses-within : (t : tie.After-known-told5) → t .before .n3 .given .0 .0 ≤ length (entry (first (second t)) .args .by-clauses .now)
+clauses-within t = counted (t .before .n3 .given .1) (clauses-asked t .next-count3 .ensures)
 
 part-refute-filled-end : tie.Need-part-refute-filled-end
 part-refute-filled-end c = words-within (first (second c))

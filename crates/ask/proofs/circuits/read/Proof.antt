@@ -7,6 +7,17 @@ use Rattle.ask.proofs.CountWithin.{counted}
 use Rattle.ask.proofs.circuits.read.Statement.{statement}
 use Rattle.ask.proofs.circuits.read.Tie as tie
 
+-- ════════ The points ════════
+
+abbrev start : tie.After-next-raw → tie.Start
+start c = c .before .before
+
+-- Where the bytes are asked for, by where their count is known.
+abbrev asked : tie.After-known-told → tie.After-next-raw
+asked t = t .before .before .before
+
+-- ════════ The needs ════════
+
 next-raw-requires : tie.Need-next-raw-requires
 next-raw-requires c κs = search needs
 
@@ -25,8 +36,8 @@ sub-read-within c = search needs
 part-read-within-start : tie.Need-part-read-within-start
 part-read-within-start c = search needs
 
-within : (t : tie.After-known-told) → t .before .n .given .0 .0 ≤ length (t .before .before .before .before .before .args .bytes .now)
-within t = counted (t .before .n .given .1) (t .before .before .before .next-raw .ensures)
+within : (t : tie.After-known-told) → t .before .n .given .0 .0 ≤ length (start (asked t) .args .bytes .now)
+within t = counted (t .before .n .given .1) (asked t .next-raw .ensures)
 
 part-read-within-end : tie.Need-part-read-within-end
 part-read-within-end c = omega (arith, within (c .before .before))

@@ -7,14 +7,28 @@ use Rattle.ask.proofs.CountWithin.{counted}
 use Rattle.ask.proofs.input.next_raw.Statement.{statement}
 use Rattle.ask.proofs.input.next_raw.Tie as tie
 
+-- ════════ The points ════════
+
+abbrev start : tie.After-next-count → tie.Start
+start c = c .before .before
+
+-- Where the count is asked for, by where it is known; and where that is, by where the bytes are read.
+abbrev asked : tie.After-known-told → tie.After-next-count
+asked t = t .before .before .before
+
+abbrev known : tie.After-slice-known2 → tie.After-known-told
+known c = c .before .before .before .before
+
+-- ════════ The needs ════════
+
 next-count-requires : tie.Need-next-count-requires
 next-count-requires c κs = search needs
 
 enum-known-got : tie.Need-enum-known-got
 enum-known-got c = search needs
 
-within : (t : tie.After-known-told) → t .before .got .given .0 .0 ≤ length (t .before .before .before .before .before .args .bytes .now)
-within t = counted (t .before .got .given .1) (t .before .before .before .next-count .ensures)
+within : (t : tie.After-known-told) → t .before .got .given .0 .0 ≤ length (start (asked t) .args .bytes .now)
+within t = counted (t .before .got .given .1) (asked t .next-count .ensures)
 
 fill-requires : tie.Need-fill-requires
 fill-requires c κs = omega (arith, within (c .before))
@@ -38,7 +52,7 @@ same-length-2 : tie.Need-same-length-2
 same-length-2 c = search needs
 
 returns-2 : tie.Need-returns-2
-returns-2 c = within (c .before .before .before .before .before .before)
+returns-2 c = within (known (c .before .before))
 
 returns-3 : tie.Need-returns-3
 returns-3 c = search needs

@@ -2,8 +2,8 @@
 use borrow.Author.Needs.{needs}
 use lib.ListN.{length}
 use Rattle.meaning.specs.Problem.{Problem, problem}
-use Rattle.encoder.specs.declared.Prepared.the-variants.{Written}
-use Rattle.encoder.specs.Preparing.{PreparedAs}
+use Rattle.checker.specs.declared.prepare.Prepared.the-variants.{Written}
+use Rattle.checker.specs.Preparing.{PreparedAs}
 use Rattle.checker.specs.Refutation.{CnfHeld}
 use Rattle.checker.proofs.ProblemRefutation.{cnf-held, steps-answered, problem-refused, room-refused, words-refused, area-refused}
 use Rattle.checker.proofs.judge.judge_refutation.Statement.{statement}
@@ -13,6 +13,9 @@ use Rattle.checker.proofs.judge.judge_refutation.Tie as tie
 
 abbrev start : tie.After-room → tie.Start
 start c = c .before .before .before .before .before .before
+
+abbrev told : tie.After-judge-written → tie.After-prepared
+told c = c .before .before .before .before .before
 
 -- The CNF was written.
 written : (c : tie.After-prepared)
@@ -39,8 +42,8 @@ enum-known-prepared c = search needs
 
 judge-written-requires : tie.Need-judge-written-requires
 judge-written-requires c κs =
-    let told = c .before .before .before .before in
-    record { p = p told; holds = held told }
+    let prepared = c .before .before .before .before in
+    record { p = p prepared; holds = held prepared }
 
 enum-known-prepared-2 : tie.Need-enum-known-prepared-2
 enum-known-prepared-2 c = search needs
@@ -66,8 +69,7 @@ same-length-3 c = search needs
 returns : tie.Need-returns
 returns c =
     let call = c .before .before .before .before in
-    let told = call .before .before .before .before .before in
-    steps-answered _ _ _ _ _ _ (written told) (call .judge-written .ensures (p told) (held told))
+    steps-answered _ _ _ _ _ _ (written (told call)) (call .judge-written .ensures (p (told call)) (held (told call)))
 
 same-length-4 : tie.Need-same-length-4
 same-length-4 c = search needs

@@ -3,7 +3,7 @@ use mathlib.Core.Path.{sym}
 use native.Mathlib.Omega.{arith}
 use borrow.Author.Needs.{needs}
 use lib.Seq.{length-take-le}
-use Rattle.clauses.specs.Limits.{variables-limit}
+use Rattle.answers.specs.Limits.{variables-limit}
 use Rattle.checker.proofs.ProblemRefutation.{variables-few, judged-for}
 use Rattle.checker.proofs.judge.judge_written.Statement.{statement}
 use Rattle.checker.proofs.judge.judge_written.Tie as tie

@@ -1,7 +1,7 @@
 -- `closing` meets its contract: before each turn the pairs at each position below `l` are written. Assumes nothing.
 use Prim.Native.Nat.{_+_, _-_, _<_}
 use native.Mathlib.Omega.{arith}
-use Rattle.meaning.specs.Limits.{bound-limit}
+use Rattle.answers.specs.Limits.{bound-limit}
 use Rattle.problem.specs.Promise.{problem-in}
 use Rattle.problem.proofs.Outlines.{shows, bound-small}
 use Rattle.encoder.specs.ItemParts.{closings-at}

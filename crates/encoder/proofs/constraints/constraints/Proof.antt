@@ -1,7 +1,7 @@
 -- `constraints` meets its contract: before each turn the units at each position below `t` are written. Assumes nothing.
 use Prim.Native.Nat.{_+_, _-_, _<_}
 use native.Mathlib.Omega.{arith}
-use Rattle.meaning.specs.Limits.{bound-limit}
+use Rattle.answers.specs.Limits.{bound-limit}
 use Rattle.problem.specs.Promise.{problem-in}
 use Rattle.problem.proofs.Outlines.{shows, bound-small}
 use Rattle.encoder.specs.ItemParts.{constraints-at}

@@ -5,7 +5,7 @@ use mathlib.Core.List.{List}
 use Prim.Native.Nat.{ℕ}
 use lib.IntN.{ℤ}
 use lib.ListN.{length}
-use Rattle.clauses.specs.Lists.{joined}
+use Rattle.answers.specs.Lists.{joined}
 use Rattle.clauses.specs.Clauses.{Clause}
 use Rattle.clauses.specs.CnfWords.{words-of}
 use Rattle.meaning.specs.Problem.{Problem}
@@ -97,7 +97,7 @@ formula-written c =
     let done = c .before .before .before in
     let start = from-nodes done in
     and-written (nodes-written done) refl
-    (as-item (p start) (start .args .s .nodes) (shows (start .args .s) (start .args .words .now) .nodes-are) (c .formula .ensures .wrote (p start) (sized (start .pre .0))))
+    (as-item (p start) (start .args .s .«formula_nodes») (shows (start .args .s) (start .args .words .now) .nodes-are) (c .formula .ensures .wrote (p start) (sized (start .pre .0))))
 
 -- ════════ The needs ════════
 

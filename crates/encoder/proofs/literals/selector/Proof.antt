@@ -1,7 +1,7 @@
 -- `selector` meets its contract. Assumes nothing.
 use Prim.Native.Nat.{_+_, _*_, _^_, _<_}
 use native.Mathlib.Omega.{arith}
-use Rattle.meaning.specs.Limits.{bound-limit}
+use Rattle.answers.specs.Limits.{bound-limit}
 use Rattle.encoder.proofs.VariableNumbers.{selector-size, pos-word, pos-negatable}
 use Rattle.encoder.proofs.literals.selector.Statement.{statement}
 use Rattle.encoder.proofs.literals.selector.Tie as tie

@@ -13,8 +13,14 @@ use Rattle.encoder.proofs.nodes.closed.Tie as tie
 
 -- ════════ The points ════════
 
+abbrev literal : tie.After-word → tie.After-e-literal
+literal c = c .before .before
+
+abbrev first-word : tie.After-selector-words → tie.After-word
+first-word c = c .before .before .before
+
 abbrev start : tie.After-selector-words → tie.Start
-start c = c .before .before .before .before .before .before
+start c = literal (first-word c) .before
 
 -- ════════ The needs ════════
 
@@ -44,11 +50,10 @@ same-length c = search needs
 returns : tie.Need-returns
 returns c =
     let sels = c .before .before .before .before in
-    let first = sels .before .before .before in
-    let e = first .before .before in
+    let first = first-word sels in
     record {
       wrote = λ p z. rw append-nil
-          (wrote-then (wrote-then (rw (literal-turned (e .e-literal .ensures) z) at (first .word .ensures)) (sels .selector-words .ensures .wrote p z)) (c .before .word2 .ensures));
+          (wrote-then (wrote-then (rw (literal-turned (literal first .e-literal .ensures) z) at (first .word .ensures)) (sels .selector-words .ensures .wrote p z)) (c .before .word2 .ensures));
     }
 
 pub closed-spec : {M : Type 1} → statement M

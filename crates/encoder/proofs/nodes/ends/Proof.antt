@@ -1,7 +1,7 @@
 -- `ends` meets its contract: before each turn the pairs of each position below `l` are written. Assumes nothing.
 use Prim.Native.Nat.{_+_, _-_, _<_}
 use native.Mathlib.Omega.{arith}
-use Rattle.meaning.specs.Limits.{bound-limit}
+use Rattle.answers.specs.Limits.{bound-limit}
 use Rattle.meaning.specs.Problem.{Problem}
 use Rattle.meaning.specs.Cnf.{E-clauses}
 use Rattle.problem.specs.Promise.{node-read}

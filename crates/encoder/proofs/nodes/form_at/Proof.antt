@@ -3,7 +3,7 @@ use borrow.Author.Needs.{needs}
 use mathlib.Core.Path.{_≡_}
 use Prim.Native.Nat.{ℕ, _<_}
 use native.Mathlib.Omega.{arith}
-use Rattle.meaning.specs.Limits.{nodes-limit, bound-limit}
+use Rattle.answers.specs.Limits.{nodes-limit, bound-limit}
 use Rattle.meaning.specs.Proper.{NodeProper}
 use Rattle.problem.specs.declared.Node.{Node}
 use Rattle.problem.specs.Promise.{left-of, node-read}

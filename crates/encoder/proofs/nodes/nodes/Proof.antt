@@ -15,7 +15,7 @@ Inv-loop words s room₀ at next₀ n₀ room next n =
     Clauses (node-clauses (problem-in s words)) (length (problem-in s words .nodes)) at room₀ room n next
 
 abbrev μ-loop : tie.MeasureT-loop
-μ-loop words s room₀ at next₀ n₀ room next n = s .nodes - n
+μ-loop words s room₀ at next₀ n₀ room next n = s .«formula_nodes» - n
 
 -- ════════ The points ════════
 

@@ -1,7 +1,7 @@
 -- `p_clauses` meets its contract. Assumes nothing.
 use borrow.Author.Needs.{needs}
 use native.Mathlib.Omega.{arith}
-use Rattle.meaning.specs.Limits.{bound-limit}
+use Rattle.answers.specs.Limits.{bound-limit}
 use Rattle.encoder.proofs.MachineLiterals.{passes, literal-passed}
 use Rattle.encoder.proofs.nodes.p_clauses.Statement.{statement}
 use Rattle.encoder.proofs.nodes.p_clauses.Tie as tie

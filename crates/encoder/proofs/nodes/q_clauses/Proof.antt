@@ -8,7 +8,7 @@ use mir.Syntax.{w32}
 use mir.Val.{toZ, ofZ}
 use denote.Enum.Declared.{tagOf}
 use types.Run.{OneOf, miss}
-use Rattle.meaning.specs.Limits.{bound-limit}
+use Rattle.answers.specs.Limits.{bound-limit}
 use Rattle.meaning.specs.Problem as problems
 use Rattle.meaning.specs.Problem.{Problem}
 use Rattle.meaning.specs.Cnf.{equal-form, P, Q-end, Q-at, Q-clauses}

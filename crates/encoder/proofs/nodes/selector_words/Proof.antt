@@ -2,7 +2,7 @@
 use mathlib.Core.List.{[], _∷_}
 use Prim.Native.Nat.{_+_, _-_, _<_}
 use native.Mathlib.Omega.{arith}
-use Rattle.meaning.specs.Limits.{bound-limit}
+use Rattle.answers.specs.Limits.{bound-limit}
 use Rattle.meaning.specs.Problem.{Problem}
 use Rattle.meaning.specs.Cnf.{selector}
 use Rattle.meaning.proofs.Numbers.{length-map-numbers}

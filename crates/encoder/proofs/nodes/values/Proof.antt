@@ -1,7 +1,7 @@
 -- `values` meets its contract: before each turn P and Q at each position below `i` are written. Assumes nothing.
 use Prim.Native.Nat.{_+_, _-_, _<_}
 use native.Mathlib.Omega.{arith}
-use Rattle.meaning.specs.Limits.{bound-limit}
+use Rattle.answers.specs.Limits.{bound-limit}
 use Rattle.meaning.specs.Problem.{Problem}
 use Rattle.problem.specs.Promise.{node-read}
 use Rattle.encoder.specs.Numbering.{Sized}

@@ -1,7 +1,7 @@
 -- `selectors` meets its contract: before each turn the pairs of each position below `l` are written. Assumes nothing.
 use Prim.Native.Nat.{_+_, _-_, _<_}
 use native.Mathlib.Omega.{arith}
-use Rattle.meaning.specs.Limits.{bound-limit}
+use Rattle.answers.specs.Limits.{bound-limit}
 use Rattle.meaning.specs.Problem.{Problem}
 use Rattle.encoder.specs.Numbering.{Sized}
 use Rattle.encoder.specs.ItemParts.{selectors-after}

@@ -3,7 +3,7 @@ use Prim.Native.Nat.{_+_, _≤_}
 use native.Mathlib.Nat.{mul-le-mul}
 use native.Mathlib.Omega.{arith}
 use borrow.Author.Needs.{needs}
-use Rattle.meaning.specs.Limits.{inputs-limit, bound-limit}
+use Rattle.answers.specs.Limits.{inputs-limit, bound-limit}
 use Rattle.finder.proofs.bits.input_bytes.Statement.{statement}
 use Rattle.finder.proofs.bits.input_bytes.Tie as tie
 

@@ -10,12 +10,12 @@ use borrow.Author.Needs.{needs}
 use borrow.Author.Tests.{eq-eqb, ne-eqb}
 use lib.ListN.{length, take, length-take}
 use lib.Seq.{take-suc, take-all}
-use Rattle.clauses.specs.Lists.{those}
-use Rattle.clauses.proofs.Satisfaction.{those-few}
-use Rattle.meaning.specs.Limits.{inputs-limit, latches-limit, bound-limit}
+use Rattle.answers.specs.Lists.{those}
+use Rattle.answers.proofs.Tests.{those-few}
+use Rattle.answers.specs.Limits.{inputs-limit, latches-limit, bound-limit}
 use Rattle.meaning.specs.Problem.{Problem, latch}
 use Rattle.meaning.specs.Proper.{Proper}
-use Rattle.meaning.specs.Witnesses.{is-free, open-bytes}
+use Rattle.finder.specs.Calls.{is-free, open-bytes}
 use Rattle.problem.specs.declared.Outline.{Outline}
 use Rattle.problem.specs.Promise.{problem-in}
 use Rattle.problem.proofs.Outlines.{Shows, shows, bound-small}

@@ -4,7 +4,7 @@ use Prim.Native.Nat.{ℕ, _+_, _*_, _^_, _-_, _≤_}
 use native.Mathlib.Nat.{pow-suc, pow-le-pow-right}
 use native.Mathlib.Numerals.{add-one}
 use native.Mathlib.Omega.{arith}
-use Rattle.meaning.specs.Limits.{search-limit}
+use Rattle.answers.specs.Limits.{search-limit}
 use Rattle.finder.proofs.bits.runs.Statement.{statement}
 use Rattle.finder.proofs.bits.runs.Tie as tie
 

@@ -1,15 +1,15 @@
 -- `find_good` meets its contract: 17, 18, or what the search answers. Assumes nothing.
-use mathlib.Core.Path.{_≡_}
-use Prim.Native.Nat.{_+_, _≤_}
-use native.Mathlib.Nat.{mul-le-mul}
+use mathlib.Core.Path.{_≡_, _∙_}
+use Prim.Native.Nat.{_≤_}
 use native.Mathlib.Omega.{arith}
 use borrow.Author.Needs.{needs}
-use Rattle.meaning.specs.Limits.{inputs-limit, latches-limit, bound-limit, search-limit}
+use Rattle.answers.specs.Limits.{inputs-limit, latches-limit, bound-limit, search-limit}
 use Rattle.meaning.specs.Problem.{Problem}
 use Rattle.meaning.specs.Witnesses.{witness-length}
 use Rattle.problem.specs.Promise.{problem-in}
 use Rattle.problem.proofs.Outlines.{Shows, shows, bound-small}
-use Rattle.finder.proofs.FinderAnswers.{needed-by, too-much, too-small, searched}
+use Rattle.values.proofs.FirstOpen.{length-is}
+use Rattle.finder.proofs.FinderAnswers.{too-much, too-small, searched}
 use Rattle.finder.proofs.find.find_good.Statement.{statement}
 use Rattle.finder.proofs.find.find_good.Tie as tie
 
@@ -24,12 +24,11 @@ problem-at c = problem-in (c .args .s) (c .args .words .now)
 sizes : (c : tie.Start) → Shows (c .args .s) (problem-at c)
 sizes c = shows (c .args .s) (c .args .words .now)
 
-abbrev counted : tie.After-input-bytes → tie.After-open-bytes
-counted c = c .before .before .before
+abbrev counted : tie.After-witness-length → tie.After-open-bytes
+counted c = c .before .before
 
--- The bytes needed are the witness's.
-needed-is : (c : tie.After-input-bytes) → 1 + start (counted c) .args .s .latches + c .input-bytes .result ≡ witness-length (problem-at (start (counted c)))
-needed-is c = needed-by (start (counted c) .args .s) (start (counted c) .args .words .now) (c .input-bytes .ensures)
+abbrev sized : tie.After-slice-known2 → tie.After-witness-length
+sized c = c .before .before .before .before .before
 
 limits : (c : tie.Start) → (c .args .s .inputs ≤ inputs-limit) × (c .args .s .latches ≤ latches-limit) × (c .args .s .bound ≤ bound-limit)
 limits c =
@@ -37,10 +36,17 @@ limits c =
     let proper = c .pre .proper in
     (omega (arith, z .inputs-are, proper .inputs-within), omega (arith, z .latches-are, proper .latches-within), bound-small (c .pre))
 
+-- The bytes needed are the witness's.
+needed-is : (c : tie.After-witness-length) → c .witness-length .result ≡ witness-length (problem-at (start (counted c)))
+needed-is c =
+    let s = start (counted c) in
+    let l = limits s in
+    c .witness-length .ensures ∙ length-is (s .args .s) (l .0) (l .1) (l .2) (s .args .words .now)
+
 -- Few bytes are open where 17 passes.
-few : (c : tie.After-input-bytes) → counted c .open-bytes .result ≤ search-limit
+few : (c : tie.After-witness-length) → counted c .open-bytes .result ≤ search-limit
 unfolding search-limit
-few c = c .before .before .if1 .left
+few c = c .before .if1 .left
 
 -- ════════ The needs ════════
 
@@ -51,20 +57,8 @@ returns : tie.Need-returns
 unfolding search-limit
 returns c = too-much (problem-at (start (c .before))) (c .before .open-bytes .ensures) (c .if1 .taken)
 
-cast-needed : tie.Need-cast-needed
-cast-needed c = search needs
-
-add-needed : tie.Need-add-needed
-add-needed c = search needs
-
-input-bytes-requires : tie.Need-input-bytes-requires
-input-bytes-requires c κs = let l = limits (start (c .before .before)) in (l .0, l .2)
-
-add-needed-2 : tie.Need-add-needed-2
-unfolding inputs-limit latches-limit bound-limit
-add-needed-2 c =
-    let l = limits (start (counted c)) in
-    omega (arith, c .input-bytes .ensures, mul-le-mul (l .0) (l .2))
+witness-length-requires : tie.Need-witness-length-requires
+witness-length-requires c κs = search needs
 
 returns-2 : tie.Need-returns-2
 returns-2 c =
@@ -81,9 +75,10 @@ same-length c = search needs
 
 returns-3 : tie.Need-returns-3
 returns-3 c =
-    let at = c .before .before .before .before .before in
-    let found = c .before .before .found .ensures in
-    searched (problem-at (start (counted at))) (counted at .open-bytes .ensures) (few at) (needed-is at) (c .before .before .before .before .if2 .left) (found .0) (found .1)
+    let at = sized c in
+    let found = c .before .before .found in
+    let fits = c .before .before .before .before .if2 .left in
+    searched (problem-at (start (counted at))) (counted at .open-bytes .ensures) (few at) (needed-is at) fits (found .ensures .0) (found .ensures .1)
 
 pub find-good-spec : {M : Type 1} → statement M
 find-good-spec =
@@ -91,10 +86,7 @@ find-good-spec =
     (tie.spec
     open-bytes-requires
     returns
-    cast-needed
-    add-needed
-    input-bytes-requires
-    add-needed-2
+    witness-length-requires
     returns-2
     found-requires
     same-length

@@ -3,9 +3,9 @@ use mathlib.Core.Path.{_≡_, _∙_, ap}
 use Prim.Native.Nat.{ℕ, _^_}
 use native.Mathlib.Omega.{arith}
 use borrow.Author.Needs.{needs}
-use Rattle.meaning.specs.Limits.{bound-limit}
+use Rattle.answers.specs.Limits.{bound-limit}
 use Rattle.meaning.specs.Problem.{Problem}
-use Rattle.meaning.specs.Witnesses.{open-bytes}
+use Rattle.finder.specs.Calls.{open-bytes}
 use Rattle.problem.specs.Promise.{problem-in}
 use Rattle.problem.proofs.Outlines.{shows, bound-small}
 use Rattle.finder.specs.declared.search.Best.{Best}
@@ -19,6 +19,9 @@ use Rattle.finder.proofs.find.found.Tie as tie
 
 abbrev start : tie.After-search → tie.Start
 start c = c .before .before .before .before
+
+abbrev searched : tie.After-slice-known2 → tie.After-search
+searched c = c .before .before .before .before .before .before .before
 
 abbrev problem-at : tie.Start → Problem
 problem-at c = problem-in (c .args .s) (c .args .words .now)
@@ -59,7 +62,7 @@ same-length c = search needs
 
 returns-2 : tie.Need-returns-2
 returns-2 c =
-    let at = c .before .before .before .before .before .before .before in
+    let at = searched c in
     let best = best-of at in
     let first = best-is-first (start at .pre .0 .proper) best
     (omega (arith, c .before .before .before .before .if1 .left, shows (start at .args .s) (start at .args .words .now) .bound-is)) in

@@ -5,11 +5,11 @@ use native.Mathlib.Numerals.{add-one}
 use native.Mathlib.Omega.{arith}
 use borrow.Author.Needs.{needs}
 use lib.ListN.{length, length-set}
-use Rattle.meaning.specs.Limits.{inputs-limit, latches-limit, bound-limit}
+use Rattle.answers.specs.Limits.{inputs-limit, latches-limit, bound-limit}
 use Rattle.meaning.specs.Problem.{Problem}
 use Rattle.problem.specs.Promise.{problem-in}
 use Rattle.problem.proofs.Outlines.{Shows, shows, bound-small}
-use Rattle.witness.specs.Tables.{positions-limit}
+use Rattle.values.specs.Tables.{positions-limit}
 use Rattle.finder.specs.Runs.{given-limit}
 use Rattle.finder.proofs.NewRun.{held-new}
 use Rattle.finder.proofs.RoomWritten.{inputs-put, row-fits, inputs-there, room-kept, room-written}

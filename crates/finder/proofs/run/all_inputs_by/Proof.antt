@@ -2,8 +2,8 @@
 -- theirs. Assumes nothing.
 use Prim.Native.Nat.{_-_}
 use native.Mathlib.Omega.{arith}
-use Rattle.meaning.specs.Limits.{inputs-limit, latches-limit, bound-limit}
-use Rattle.witness.specs.Tables.{positions-limit}
+use Rattle.answers.specs.Limits.{inputs-limit, latches-limit, bound-limit}
+use Rattle.values.specs.Tables.{positions-limit}
 use Rattle.finder.specs.Runs.{given-limit}
 use Rattle.finder.proofs.Filling.{InputsFrom, no-inputs, one-position, all-above}
 use Rattle.finder.proofs.run.all_inputs_by.Statement.{statement}

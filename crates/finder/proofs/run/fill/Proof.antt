@@ -3,7 +3,7 @@ use native.Mathlib.Omega.{arith}
 use borrow.Author.Needs.{needs}
 use Rattle.problem.specs.Promise.{problem-in}
 use Rattle.problem.proofs.Outlines.{Shows, shows, bound-small}
-use Rattle.witness.specs.Tables.{positions-limit}
+use Rattle.values.specs.Tables.{positions-limit}
 use Rattle.finder.specs.Runs.{given-limit}
 use Rattle.finder.proofs.Filling.{filled}
 use Rattle.finder.proofs.run.fill.Statement.{statement}

@@ -7,11 +7,11 @@ use native.Mathlib.Omega.{arith}
 use borrow.Author.Tests.{ltb-true}
 use lib.Dec.{ltb}
 use lib.ListN.{length, length-replicate}
-use Rattle.clauses.proofs.Satisfaction.{first-true}
-use Rattle.meaning.specs.Limits.{inputs-limit, latches-limit, gates-limit, bound-limit}
+use Rattle.answers.proofs.Tests.{first-true}
+use Rattle.answers.specs.Limits.{inputs-limit, latches-limit, gates-limit, bound-limit}
 use Rattle.problem.specs.Promise.{problem-in}
 use Rattle.problem.proofs.Outlines.{shows, bound-small}
-use Rattle.witness.specs.Tables.{row-width, rows-room, positions-limit}
+use Rattle.values.specs.Tables.{row-width, rows-room, positions-limit}
 use Rattle.finder.specs.Runs.{Held, given-limit}
 use Rattle.finder.specs.Search.{BestOf}
 use Rattle.finder.proofs.BestRuns.{best-of-none, better, no-better, best-of-all}

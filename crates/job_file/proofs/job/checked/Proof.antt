@@ -6,9 +6,9 @@ use native.Mathlib.Omega.{arith}
 use borrow.Author.Needs.{needs}
 use borrow.Author.Tests.{not-true, not-false}
 use lib.Dec.{ltb}
-use Rattle.meaning.specs.Limits.{job-limit}
+use Rattle.answers.specs.Limits.{job-limit}
 use Rattle.meaning.specs.Problem.{header-words}
-use Rattle.meaning.specs.JobFile.{job-version}
+use Rattle.job_file.specs.JobFile.{job-version}
 use Rattle.job_file.proofs.JobChecks.{at-too-long, at-too-short, at-version, at-length, at-fourth, at-good}
 use Rattle.job_file.proofs.job.checked.Statement.{statement}
 use Rattle.job_file.proofs.job.checked.Tie as tie

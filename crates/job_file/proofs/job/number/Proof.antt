@@ -8,7 +8,7 @@ use native.Mathlib.Omega.{arith}
 use borrow.Author.Needs.{needs}
 use lib.ListN.{length, getD, drop}
 use lib.Seq.{drop-cons}
-use Rattle.meaning.specs.JobFile.{number-at}
+use Rattle.job_file.specs.JobFile.{number-at}
 use Rattle.job_file.proofs.job.number.Statement.{statement}
 use Rattle.job_file.proofs.job.number.Tie as tie
 

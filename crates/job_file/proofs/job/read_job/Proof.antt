@@ -4,8 +4,8 @@ use Prim.Native.Nat.{_≤_}
 use native.Mathlib.Omega.{arith}
 use borrow.Author.Needs.{needs}
 use lib.ListN.{length}
-use Rattle.meaning.specs.Limits.{job-limit}
-use Rattle.meaning.specs.JobFile.{job-header, job-words}
+use Rattle.answers.specs.Limits.{job-limit}
+use Rattle.job_file.specs.JobFile.{job-header, job-words}
 use Rattle.job_file.specs.Promise.{job-answered, words-room}
 use Rattle.job_file.proofs.JobChecks.{good-length}
 use Rattle.job_file.proofs.ReadWords.{length-words}

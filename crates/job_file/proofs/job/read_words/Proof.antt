@@ -4,7 +4,7 @@ use mathlib.Core.Path.{_≡_, refl}
 use Prim.Native.Nat.{_-_, _≤_}
 use native.Mathlib.Omega.{arith}
 use lib.ListN.{length, length-set}
-use Rattle.clauses.specs.Lists.{written}
+use Rattle.answers.specs.Lists.{written}
 use Rattle.job_file.specs.Promise.{words-from}
 use Rattle.job_file.proofs.ReadWords.{word-written}
 use Rattle.job_file.proofs.job.read_words.Statement.{statement}

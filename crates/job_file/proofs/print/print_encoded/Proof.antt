@@ -10,7 +10,7 @@ use lib.IntN.{ℤ}
 use lib.ListN.{length}
 use lib.Seq.{length-take-le}
 use types.Run.{OneOf}
-use Rattle.meaning.specs.JobFile.{refusal-line}
+use Rattle.job_file.specs.JobFile.{refusal-line}
 use Rattle.counts.specs.declared.Counts.{Counts}
 use Rattle.encoder.specs.declared.Encoded.{Encoded}
 use Rattle.encoder.specs.declared.Encoded.the-variants.{Written, Problem, RoomTooSmall}

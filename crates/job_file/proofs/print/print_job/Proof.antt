@@ -6,7 +6,7 @@ use borrow.Author.Needs.{needs}
 use lib.IntN.{pos}
 use lib.ListN.{take, replicate}
 use lib.Seq.{length-take-le}
-use Rattle.meaning.specs.Limits.{program-room}
+use Rattle.answers.specs.Limits.{program-room}
 use Rattle.encoder.specs.Promise.{EncodedAs}
 use Rattle.job_file.specs.Promise.{job-answered}
 use Rattle.job_file.proofs.Prints.{prints-as, line-by}

@@ -36,9 +36,9 @@ module _ (a : List ℕ) (m : ℕ) (b : List ℕ) (n : ℕ) {o : List ℕ} (h : l
       (puts-then to-first small
       (put-there to-opening small opened) one) parted) two)
 
--- ════════ The needs ════════
+-- ════════ The points ════════
 
--- The points: the opening is put, the first number, what stands between, the second number.
+-- The opening is put, the first number, what stands between, the second number.
 abbrev opening-put : tie.After-put-number → tie.After-put-bytes
 opening-put c = c .before .before .before .before
 
@@ -48,8 +48,11 @@ first-put c = c .before .before .before .before
 abbrev between-put : tie.After-put-ended → tie.After-put-bytes2
 between-put c = c .before .before .before .before
 
-abbrev start : tie.After-put-bytes → tie.Start
-start c = c .before .before .before .before .before
+-- The entry, by where the buffers' lengths are known.
+abbrev start : tie.After-put-bytes-arg → tie.Start
+start c = c .before .before .before .before
+
+-- ════════ The needs ════════
 
 put-bytes-requires : tie.Need-put-bytes-requires
 put-bytes-requires c κs = search needs
@@ -72,7 +75,7 @@ returns c =
     let parted = between-put two in
     let one = first-put parted in
     let opened = opening-put one in
-    let s = start opened in
+    let s = start (opened .before) in
     line-put (s .args .opening .now) (s .args .first) (s .args .between .now) (s .args .second) (s .pre) (s .good .1 .1 .1 .1 .0 .1)
     (opened .put-bytes .ensures) (one .put-number .ensures) (parted .put-bytes2 .ensures) (two .put-ended .ensures)
 

@@ -8,7 +8,7 @@ use lib.IntN.{ℤ}
 use lib.ListN.{length, length-append}
 use Rattle.text.specs.Promise.{largest-size}
 use Rattle.text.proofs.Buffers.{room-next, put-then}
-use Rattle.meaning.specs.JobFile.{header-line}
+use Rattle.job_file.specs.JobFile.{header-line}
 use Rattle.job_file.specs.Text.{words-text, flat-text}
 use Rattle.job_file.specs.Promise.{size}
 use Rattle.job_file.proofs.Prints.{prints-short, fits-by-size, prints-bytes}

@@ -4,8 +4,8 @@ use Prim.Native.Nat.{ℕ, _≤_}
 use native.Mathlib.Omega.{arith}
 use borrow.Author.Needs.{needs}
 use lib.ListN.{length}
-use Rattle.clauses.specs.Answers.{answer}
-use Rattle.meaning.specs.JobFile.{refusal-line}
+use Rattle.answers.specs.Answers.{answer}
+use Rattle.job_file.specs.JobFile.{refusal-line}
 use Rattle.job_file.proofs.Prints.{size-exact, prints-short, prints-bytes}
 use Rattle.job_file.proofs.texts.refusal_text.Statement.{statement}
 use Rattle.job_file.proofs.texts.refusal_text.Tie as tie

@@ -2,7 +2,7 @@
 use mathlib.Core.Path.{refl}
 use borrow.Author.Needs.{needs}
 use borrow.Author.Tests.{le-leb, lt-leb}
-use Rattle.meaning.specs.Limits.{constraints-limit}
+use Rattle.answers.specs.Limits.{constraints-limit}
 use Rattle.problem.proofs.Answered.{pass, fail, all-pass}
 use Rattle.problem.proofs.check.constraints_limit.Statement.{statement}
 use Rattle.problem.proofs.check.constraints_limit.Tie as tie

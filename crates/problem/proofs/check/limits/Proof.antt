@@ -1,17 +1,10 @@
 -- `limits` meets its contract: one line a limit. Assumes nothing.
 use borrow.Author.Needs.{needs}
-use mathlib.Core.List.{[], _∷_}
-use Rattle.clauses.specs.Answers.{Check}
-use Rattle.meaning.specs.Limits.{inputs-limit, latches-limit, gates-limit, nodes-limit, bound-limit}
-use Rattle.problem.specs.declared.check.PartAnswer.{PartAnswer}
-use Rattle.problem.specs.CheckParts.{Answers}
+use Rattle.answers.specs.Limits.{inputs-limit, latches-limit, gates-limit, nodes-limit, bound-limit}
+use Rattle.meaning.specs.Check.{limit-checks}
+use Rattle.problem.proofs.Answered.{as-one}
 use Rattle.problem.proofs.check.limits.Statement.{statement}
 use Rattle.problem.proofs.check.limits.Tie as tie
-
--- Six checks, each by itself, as one part.
-as-one : {a b c d e f : Check} {r : PartAnswer}
-    → Answers ((a ∷ []) ∷ (b ∷ []) ∷ (c ∷ []) ∷ (d ∷ []) ∷ (e ∷ []) ∷ (f ∷ []) ∷ []) r → Answers ((a ∷ b ∷ c ∷ d ∷ e ∷ f ∷ []) ∷ []) r
-as-one six = record { answered = six .answered }
 
 limit-requires : tie.Need-limit-requires
 limit-requires c κs = search needs
@@ -53,14 +46,16 @@ returns c =
     let to-nodes = to-bound .before .before in
     let to-gates = to-nodes .before .before in
     let to-latches = to-gates .before .before in
-    let inputs = to-latches .before .before .limit .ensures in
+    let first = to-latches .before .before in
+    let args = first .before .before .args in
+    let inputs = first .limit .ensures in
     let latches = to-latches .before .limit2 .ensures in
     let gates = to-gates .before .limit3 .ensures in
     let nodes = to-nodes .before .limit4 .ensures in
     let bound = to-bound .before .limit5 .ensures in
     let constraints = c .before .constraints-limit .ensures in
     let five = to-bound .then4 .ensures .answers _ _ (to-nodes .then3 .ensures .answers _ _ (to-gates .then2 .ensures .answers _ _ (to-latches .then .ensures .answers _ _ inputs latches) gates) nodes) bound in
-    as-one (c .then5 .ensures .answers _ _ five constraints)
+    as-one (limit-checks (args .version) (args .words .now)) (c .then5 .ensures .answers _ _ five constraints)
 
 pub limits-spec : {M : Type 1} → statement M
 limits-spec =

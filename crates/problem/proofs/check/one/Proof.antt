@@ -14,9 +14,7 @@ enum-told-2 : tie.Need-enum-told-2
 enum-told-2 c = search needs
 
 gate-requires : tie.Need-gate-requires
-gate-requires c κs =
-    let start = c .before .before .before in
-    (start .pre .0, rw (is (start .args .kind) (c .before .match .keys2)) at (start .pre .1))
+gate-requires c κs = search needs
 
 enum-told-3 : tie.Need-enum-told-3
 enum-told-3 c = search needs
@@ -33,22 +31,22 @@ node-requires c κs = search needs
 returns : tie.Need-returns
 returns c =
     let told = c .before .before in
-    rw (is (told .before .before .args .kind) (told .match .keys1)) (c .latch .ensures)
+    rw (is (told .before .before .before .args .kind) (told .match .keys1)) (c .latch .ensures)
 
 returns-2 : tie.Need-returns-2
 returns-2 c =
     let told = c .before .before in
-    rw (is (told .before .before .args .kind) (told .match .keys2)) (c .gate .ensures)
+    rw (is (told .before .before .before .args .kind) (told .match .keys2)) (c .gate .ensures)
 
 returns-3 : tie.Need-returns-3
 returns-3 c =
     let told = c .before .before in
-    rw (is (told .before .before .args .kind) (told .match .keys3)) (c .constraint .ensures)
+    rw (is (told .before .before .before .args .kind) (told .match .keys3)) (c .constraint .ensures)
 
 returns-4 : tie.Need-returns-4
 returns-4 c =
     let told = c .before .before in
-    rw (is (told .before .before .args .kind) (told .match .keys4)) (c .node .ensures)
+    rw (is (told .before .before .before .args .kind) (told .match .keys4)) (c .node .ensures)
 
 pub one-spec : {M : Type 1} → statement M
 one-spec =

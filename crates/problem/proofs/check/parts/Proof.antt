@@ -1,4 +1,5 @@
 -- `parts` meets its contract: one line a part. Assumes nothing.
+use mathlib.Core.Path.{_∙_}
 use borrow.Author.Needs.{needs}
 use Rattle.problem.specs.Promise.{problem-in}
 use Rattle.problem.proofs.Outlines.{shows}
@@ -55,7 +56,7 @@ returns c =
     let to-gates = to-constraints .before in
     let to-latches = to-gates .before in
     let length = to-latches .before in
-    let start = latches length .before .before in
+    let start = latches length .before .before .before in
     let s = start .args .s in
     let ws = start .args .words .now in
     let by-latches = latches length .all .ensures in
@@ -74,7 +75,7 @@ returns c =
           let all-but-nodes = to-constraints .then3 .ensures .both-pass (all .0) in
           let to-the-gates = to-gates .then2 .ensures .both-pass (all-but-nodes .0) in
           let passed = to-latches .then .ensures .both-pass (to-the-gates .0) in
-          let forms = nodes-seen (problem-in s ws) (nodes length .all4 .result .seen) (shows s ws .nodes-are) (by-nodes .counted (all .1)) in
+          let forms = nodes-seen (problem-in s ws) (nodes length .all4 .result .seen) (shows s ws .nodes-are ∙ start .pre) (by-nodes .counted (all .1)) in
           record {
             fixed-are = latches-seen (problem-in s ws) (latches length .all .result .seen) (shows s ws .latches-are) (by-latches .counted (passed .1));
             forms-are = record { equals-are = forms .equals-are; ors-are = forms .ors-are; untils-are = forms .untils-are };

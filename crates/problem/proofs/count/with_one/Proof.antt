@@ -6,7 +6,7 @@ use Prim.Native.Nat.{_+_, _<_}
 use native.Mathlib.Omega.{arith}
 use lib.Dec.{ltb}
 use Rattle.meaning.specs.Problem.{Problem, Node, node-of, word, node-place}
-use Rattle.problem.specs.declared.check.Kind.the-variants as Kind
+use Rattle.problem.specs.declared.kinds.Kind.the-variants as Kind
 use Rattle.problem.specs.declared.count.Seen.{Seen}
 use Rattle.problem.specs.Promise.{outline-of, problem-in}
 use Rattle.problem.specs.Walks.{Added, SeenTo}
@@ -28,10 +28,14 @@ abbrev p : tie.Start → Problem
 p c = problem-in (c .args .s) (c .args .words .now)
 
 latches-to : (c : tie.After-enum-told) → let at = latch-arm c in (at .args .i < at .args .s .latches) × SeenTo Kind.Latch (p at) (at .args .i) (at .args .seen)
-latches-to c = let at = latch-arm c in kind-by (outline-of (at .args .s)) (p at) (at .args .i) (at .args .seen) (is (at .args .kind) (c .before .match .keys1)) (at .pre)
+latches-to c = let at = latch-arm c in kind-by (outline-of (at .args .s)) (p at) (at .args .i) (at .args .seen) (is (at .args .kind) (c .before .match .keys1)) (at .pre .1, at .pre .2)
 
-nodes-to : (c : tie.After-enum-told4) → let at = node-arm c in (at .args .i < at .args .s .nodes) × SeenTo Kind.Node (p at) (at .args .i) (at .args .seen)
-nodes-to c = let at = node-arm c in kind-by (outline-of (at .args .s)) (p at) (at .args .i) (at .args .seen) (is (at .args .kind) (c .before .match .keys4)) (at .pre)
+nodes-to : (c : tie.After-enum-told4) → let at = node-arm c in (at .args .i < at .args .s .«written_nodes») × SeenTo Kind.Node (p at) (at .args .i) (at .args .seen)
+nodes-to c = let at = node-arm c in kind-by (outline-of (at .args .s)) (p at) (at .args .i) (at .args .seen) (is (at .args .kind) (c .before .match .keys4)) (at .pre .1, at .pre .2)
+
+-- A node of the words is one of the formula.
+there : (at : tie.Start) → at .args .i < at .args .s .«written_nodes» → at .args .i < at .args .s .«formula_nodes»
+there at l = rw (at .pre .0) l
 
 -- What is added for a node by another name.
 added-by : {f r : Seen} {x y : Node} → x ≡ y → Added f x r → Added f y r
@@ -96,8 +100,8 @@ returns-4 c =
     let ws = at .args .words .now in
     let op = read .word-at .ensures ∙ ap (word ws) (read .before .node-place .ensures) in
     rw (is (at .args .kind) (told .before .match .keys4))
-    (node-more (p at) (at .args .seen) (rw (shows s ws .nodes-are) (to .0)) (to .1) (c .with-op .result)
-    (added-by (ap (λ n. node-of n (word ws (node-place (outline-of s) (at .args .i) + 1)) (word ws (node-place (outline-of s) (at .args .i) + 2))) op ∙ node-words-read s ws (at .args .i) (to .0))
+    (node-more (p at) (at .args .seen) (rw (shows s ws .nodes-are) (there at (to .0))) (to .1) (c .with-op .result)
+    (added-by (ap (λ n. node-of n (word ws (node-place (outline-of s) (at .args .i) + 1)) (word ws (node-place (outline-of s) (at .args .i) + 2))) op ∙ node-words-read s ws (at .args .i) (there at (to .0)))
     (c .with-op .ensures _ _)))
 
 pub with-one-spec : {M : Type 1} → statement M

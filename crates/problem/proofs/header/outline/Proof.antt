@@ -6,7 +6,7 @@ use mathlib.Core.List.{List}
 use Prim.Native.Nat.{ℕ, _+_, _*_, _≤_}
 use native.Mathlib.Omega.{arith}
 use lib.Dec.{eqb}
-use Rattle.meaning.specs.Limits.{inputs-limit, latches-limit, gates-limit, constraints-limit}
+use Rattle.answers.specs.Limits.{inputs-limit, latches-limit, gates-limit, constraints-limit}
 use Rattle.meaning.specs.Problem.{header-words, header-word, outline, word}
 use Rattle.problem.proofs.header.outline.Statement.{statement}
 use Rattle.problem.proofs.header.outline.Tie as tie
@@ -70,7 +70,8 @@ built : (version : ℕ) (ws : List ℕ) {inputs latches gates constraints nodes 
       latches = latches;
       gates = gates;
       constraints = constraints;
-      nodes = nodes;
+      written-nodes = nodes;
+      formula-nodes = nodes;
       bound = bound;
       width = inputs + latches + gates;
       latches-from = from;

@@ -5,6 +5,9 @@ use Rattle.problem.proofs.Outlines.{left-read, left-past}
 use Rattle.problem.proofs.read.gate_left.Statement.{statement}
 use Rattle.problem.proofs.read.gate_left.Tie as tie
 
+abbrev start : tie.After-word-at → tie.Start
+start c = c .before .before .before .before .before
+
 gate-place-requires : tie.Need-gate-place-requires
 gate-place-requires c κs = search needs
 
@@ -13,13 +16,12 @@ word-at-requires c κs = search needs
 
 returns : tie.Need-returns
 returns c =
-    let start = c .before .before .before .before .before in
-    rw (← (left-read (start .args .s) (start .args .words .now) (start .args .j) (c .before .before .if1 .taken)), ← (c .before .gate-place .ensures)) (c .word-at .ensures)
+    rw (← (left-read (start c .args .s) (start c .args .words .now) (start c .args .j) (c .before .before .if1 .taken)), ← (c .before .gate-place .ensures)) (c .word-at .ensures)
 
 returns-2 : tie.Need-returns-2
 returns-2 c =
-    let start = c .before .before .before in
-    sym (left-past (start .args .s) (start .args .words .now) (start .args .j) (c .if1 .left))
+    let entry = c .before .before .before in
+    sym (left-past (entry .args .s) (entry .args .words .now) (entry .args .j) (c .if1 .left))
 
 pub gate-left-spec : {M : Type 1} → statement M
 gate-left-spec = tie.close (tie.spec gate-place-requires word-at-requires returns returns-2)

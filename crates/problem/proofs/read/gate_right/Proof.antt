@@ -5,6 +5,9 @@ use Rattle.problem.proofs.Outlines.{right-read, right-past}
 use Rattle.problem.proofs.read.gate_right.Statement.{statement}
 use Rattle.problem.proofs.read.gate_right.Tie as tie
 
+abbrev start : tie.After-word-at → tie.Start
+start c = c .before .before .before .before .before
+
 gate-place-requires : tie.Need-gate-place-requires
 gate-place-requires c κs = search needs
 
@@ -16,13 +19,12 @@ word-at-requires c κs = search needs
 
 returns : tie.Need-returns
 returns c =
-    let start = c .before .before .before .before .before in
-    rw (← (right-read (start .args .s) (start .args .words .now) (start .args .j) (c .before .before .if1 .taken)), ← (c .before .gate-place .ensures)) (c .word-at .ensures)
+    rw (← (right-read (start c .args .s) (start c .args .words .now) (start c .args .j) (c .before .before .if1 .taken)), ← (c .before .gate-place .ensures)) (c .word-at .ensures)
 
 returns-2 : tie.Need-returns-2
 returns-2 c =
-    let start = c .before .before .before in
-    sym (right-past (start .args .s) (start .args .words .now) (start .args .j) (c .if1 .left))
+    let entry = c .before .before .before in
+    sym (right-past (entry .args .s) (entry .args .words .now) (entry .args .j) (c .if1 .left))
 
 pub gate-right-spec : {M : Type 1} → statement M
 gate-right-spec =

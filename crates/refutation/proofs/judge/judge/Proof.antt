@@ -4,12 +4,12 @@ use Prim.Native.Nat.{ℕ, _+_, _<_}
 use native.Mathlib.Omega.{arith}
 use borrow.Author.Needs.{needs}
 use lib.ListN.{length}
-use Rattle.clauses.specs.Answers.{bad-cnf, bad-refutation}
+use Rattle.answers.specs.Answers.{bad-cnf, bad-refutation}
 use Rattle.clauses.specs.CnfWords.{clauses-of}
 use Rattle.clauses.specs.Refutations.{steps-of}
 use Rattle.refutation.specs.Promise.{counted-answer}
 use Rattle.refutation.specs.Work.{CnfRight, StepsRight}
-use Rattle.clauses.proofs.Answers.{cnf-counted, steps-counted}
+use Rattle.clauses.proofs.Judges.{cnf-counted, steps-counted}
 use Rattle.clauses.proofs.ReadBack.{clauses-fewer, steps-fewer}
 use Rattle.refutation.proofs.JudgeAnswers.{refused-16, refused-11, few-numbers, few-clauses, all-judged}
 use Rattle.refutation.proofs.judge.judge.Statement.{statement}

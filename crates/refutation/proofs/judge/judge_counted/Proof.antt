@@ -8,7 +8,9 @@ use Rattle.refutation.proofs.JudgeCounted.{cleared-older, numbers-after
 use Rattle.refutation.proofs.judge.judge_counted.Statement.{statement}
 use Rattle.refutation.proofs.judge.judge_counted.Tie as tie
 
--- The points: the area by numbers is cleared, both are, the CNF is placed, the steps are judged, and both areas are cleared again.
+-- ════════ The points ════════
+
+-- The area by numbers is cleared, both are, the CNF is placed, the steps are judged, and both areas are cleared again.
 abbrev start : tie.After-clear → tie.Start
 start c = c .before .before .before .before
 
@@ -21,14 +23,19 @@ cleared-both c = c .before .before .before .before
 abbrev placed : tie.After-judge-steps-arg2 → tie.After-place-cnf
 placed c = c .before .before .before .before
 
+abbrev given-back : tie.After-slice-known7 → tie.After-judge-steps
+given-back c = c .before .before .before .before
+
 abbrev judged : tie.After-clear3 → tie.After-judge-steps
-judged c = c .before .before .before .before .before .before
+judged c = given-back (c .before .before)
 
 abbrev cleared-again : tie.After-clear-arg4 → tie.After-clear3
 cleared-again c = c .before .before .before
 
 abbrev entry : tie.After-clear2 → tie.Start
 entry c = start (cleared c)
+
+-- ════════ The needs ════════
 
 add-clear : tie.Need-add-clear
 add-clear c = search needs

@@ -9,8 +9,8 @@ use lib.IntN.{ℤ, pos}
 use lib.ListN.{length, getD}
 use mir.Syntax.{w32}
 use mir.Val.{SFits}
-use Rattle.clauses.specs.Limits.{variables-limit}
-use Rattle.clauses.specs.Answers.{first-failing, granted}
+use Rattle.answers.specs.Limits.{variables-limit}
+use Rattle.answers.specs.Answers.{first-failing, granted}
 use Rattle.clauses.specs.Clauses.{variable-of}
 use Rattle.clauses.specs.CnfWords.{cnf-checks, clauses-of}
 use Rattle.clauses.proofs.Signs.{word-is, at-0, not-0}

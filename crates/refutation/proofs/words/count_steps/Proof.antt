@@ -9,7 +9,7 @@ use lib.IntN.{ℤ, pos}
 use lib.ListN.{length, getD}
 use mir.Syntax.{w32}
 use mir.Val.{SFits}
-use Rattle.clauses.specs.Answers.{first-failing, granted}
+use Rattle.answers.specs.Answers.{first-failing, granted}
 use Rattle.clauses.specs.Refutations.{refutation-checks, steps-of}
 use Rattle.clauses.proofs.Signs.{word-is, at-0, not-0}
 use Rattle.clauses.proofs.WordByWord.{right-in}

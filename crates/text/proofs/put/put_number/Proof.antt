@@ -10,9 +10,16 @@ use Rattle.text.proofs.Buffers.{fits-by, exact, puts-there, puts-nothin
 use Rattle.text.proofs.put.put_number.Statement.{statement}
 use Rattle.text.proofs.put.put_number.Tie as tie
 
--- The point: the place after the digits is known.
+-- ════════ The points ════════
+
+-- The entry, by where the place after the digits is known.
 abbrev start : tie.After-sum → tie.Start
 start c = c .before .before .before
+
+abbrev ended : tie.After-fill-digits → tie.After-sum
+ended c = c .before .before .before
+
+-- ════════ The needs ════════
 
 digits-requires : tie.Need-digits-requires
 digits-requires c κs = search needs
@@ -28,19 +35,20 @@ small c = start c .good .1 .1 .0 .1
 
 fill-digits-requires : tie.Need-fill-digits-requires
 fill-digits-requires c κs =
-    let ended = c .before .before in
-    let args = start ended .args in
-    (exact (decimal (args .n)) (args .at) (args .out .now) (end-is ended) (small ended) (omega arith), omega arith)
+    let sum = c .before .before in
+    let args = start sum .args in
+    (exact (decimal (args .n)) (args .at) (args .out .now) (end-is sum) (small sum) (omega arith), omega arith)
 
 same-length : tie.Need-same-length
 same-length c = search needs
 
 returns : tie.Need-returns
 returns c =
-    let ended = c .before .before .before .before .before in
-    let args = start ended .args in
-    let fits = fits-by (decimal (args .n)) (args .at) (args .out .now) (end-is ended) (small ended) (omega arith) in
-    puts-there (decimal (args .n)) (args .at) (args .out .now) (end-is ended) fits (c .before .before .fill-digits .ensures)
+    let filled = c .before .before in
+    let sum = ended filled in
+    let args = start sum .args in
+    let fits = fits-by (decimal (args .n)) (args .at) (args .out .now) (end-is sum) (small sum) (omega arith) in
+    puts-there (decimal (args .n)) (args .at) (args .out .now) (end-is sum) fits (filled .fill-digits .ensures)
 
 returns-2 : tie.Need-returns-2
 returns-2 c =

@@ -1,6 +1,6 @@
 -- `text::scan::is_parting` meets its contract: a digit parts no words. Assumes nothing.
 use borrow.Author.Needs.{needs}
-use mathlib.Core.Path.{_≡_, sym}
+use mathlib.Core.Path.{sym}
 use borrow.Author.Tests.{not-true}
 use Rattle.text.specs.Readings.{parts}
 use Rattle.text.proofs.NumberLaws.{digit-parts-not}

@@ -6,9 +6,9 @@ use Prim.Native.Nat.{ℕ, _+_, _≤_, _<_}
 use native.Mathlib.Omega.{arith}
 use borrow.Author.Tests.{leb-true, ltb-true}
 use lib.Dec.{leb, ltb}
-use Rattle.clauses.proofs.Satisfaction.{first-true, second-true}
-use Rattle.text.specs.Numbers.{largest-number}
-use Rattle.text.specs.Promise.{no-number, longer, state-after}
+use Rattle.answers.proofs.Tests.{first-true, second-true}
+use Rattle.answers.specs.Limits.{largest-number}
+use Rattle.text.specs.Promise.{longer, state-after}
 use Rattle.text.proofs.ByteByByte.{GoesOn, after-number}
 use Rattle.text.proofs.scan.state_after.Statement.{statement}
 use Rattle.text.proofs.scan.state_after.Tie as tie

@@ -6,8 +6,8 @@ use Prim.Native.Nat.{ℕ, _+_, _≤_, _<_}
 use native.Mathlib.Omega.{arith}
 use borrow.Author.Tests.{ltb-false, le-ltb, eqb-false, ne-eqb, leb-false, lt-leb}
 use lib.Dec.{leb, ltb, eqb}
-use Rattle.clauses.proofs.Satisfaction.{not-both}
-use Rattle.text.specs.Numbers.{largest-number}
+use Rattle.answers.proofs.Tests.{not-both}
+use Rattle.answers.specs.Limits.{largest-number}
 use Rattle.text.specs.Promise.{no-number, longer, state-after}
 use Rattle.text.proofs.ByteByByte.{GoesOn, after-number, after-other}
 use Rattle.text.proofs.scan.tested_after.Statement.{statement}

@@ -56,13 +56,27 @@ module _ (text : List ℕ) (at : ℕ) where
       let whole : word-of (drop at text) ≡ r .front = r .word-is ∙ rw e (append-nil (r .front)) in
       record { state-is = r .state-is ∙ rw whole; end-is = r .end-is ∙ rw whole }
 
--- ════════ The code ════════
+-- ════════ The loop ════════
 
 abbrev Inv-loop : tie.InvT-loop
 Inv-loop text at state₀ end₀ state end = ReadTo text at state end
 
 abbrev μ-loop : tie.MeasureT-loop
 μ-loop text at state₀ end₀ state end = length text - end
+
+-- ════════ The points ════════
+
+abbrev start : tie.At-loop Inv-loop μ-loop → tie.Start Inv-loop μ-loop
+start c = c .before .before
+
+-- A turn, by where it is known whether its byte parts words.
+abbrev turn : tie.After-is-parting Inv-loop μ-loop → tie.At-loop Inv-loop μ-loop
+turn c = c .before .before .before
+
+below : (c : tie.After-is-parting Inv-loop μ-loop) → turn c .loop .end < length (start (turn c) .args .text .now)
+below c = c .before .before .loop-test .taken
+
+-- ════════ The needs ════════
 
 loop-holds : tie.Need-loop-holds Inv-loop μ-loop
 loop-holds c = read-none _ _
@@ -75,10 +89,11 @@ is-parting-requires c κs = search needs
 
 returns : tie.Need-returns Inv-loop μ-loop
 returns c =
-    let text = c .before .before .before .before .before .before .args .text .now in
-    let end = c .before .before .before .before .loop .end in
-    read-all text (c .before .before .before .before .before .before .args .at) (c .before .before .before .before .loop .inv)
-    (no-word-from text (c .before .before .before .before .before .before .args .at) end (c .before .before .before .loop-test .taken) (sym (c .before .is-parting .ensures) ∙ c .if1 .taken))
+    let parting = c .before in
+    let t = turn parting in
+    let text = start t .args .text .now in
+    let at = start t .args .at in
+    read-all text at (t .loop .inv) (no-word-from text at (t .loop .end) (below parting) (sym (parting .is-parting .ensures) ∙ c .if1 .taken))
 
 state-after-requires : tie.Need-state-after-requires Inv-loop μ-loop
 state-after-requires c κs = search needs
@@ -91,16 +106,17 @@ loop-less c = search needs
 
 loop-again : tie.Need-loop-again Inv-loop μ-loop
 loop-again c =
-    read-more (c .before .before .before .before .before .before .before .args .text .now) (c .before .before .before .before .before .before .before .args .at)
-    (c .before .before .before .before .before .loop .inv)
-    (c .before .before .before .before .loop-test .taken)
-    (sym (c .before .before .is-parting .ensures) ∙ c .before .if1 .left)
+    let parting = c .before .before in
+    let t = turn parting in
+    read-more (start t .args .text .now) (start t .args .at) (t .loop .inv) (below parting)
+    (sym (parting .is-parting .ensures) ∙ c .before .if1 .left)
     (c .state-after .ensures)
 
 returns-2 : tie.Need-returns-2 Inv-loop μ-loop
 returns-2 c =
-    let text = c .before .before .before .args .text .now in
-    read-all text (c .before .before .before .args .at) (c .before .loop .inv) (rw (drop-of-length-le text (c .loop-test .left)))
+    let t = c .before in
+    let text = start t .args .text .now in
+    read-all text (start t .args .at) (t .loop .inv) (rw (drop-of-length-le text (c .loop-test .left)))
 
 pub word-at-spec : {M : Type 1} → statement M
 word-at-spec =

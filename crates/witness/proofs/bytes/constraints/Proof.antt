@@ -6,17 +6,17 @@ use Prim.Native.Nat.{ℕ, _+_, _*_, _-_}
 use native.Mathlib.Omega.{arith}
 use borrow.Author.Needs.{needs}
 use borrow.Author.Tests.{not-true, not-false}
-use Rattle.clauses.specs.Answers.{Check, check}
-use Rattle.meaning.specs.Limits.{inputs-limit, latches-limit, gates-limit, bound-limit}
-use Rattle.meaning.specs.Answers.{constraint-broken}
+use Rattle.answers.specs.Answers.{Check, check}
+use Rattle.answers.specs.Limits.{inputs-limit, latches-limit, gates-limit, bound-limit}
+use Rattle.meaning.specs.Witnesses.{constraint-broken, position, position-checks}
 use Rattle.meaning.specs.Problem.{Problem}
 use Rattle.meaning.specs.Runs.{meets-constraints}
-use Rattle.meaning.specs.Witnesses.{position, position-checks}
 use Rattle.problem.specs.Promise.{problem-in}
 use Rattle.problem.proofs.Outlines.{Shows, shows}
-use Rattle.witness.specs.Tables.{RunShown, row-width}
+use Rattle.witness.specs.ShownRun.{RunShown}
+use Rattle.values.specs.Tables.{row-width}
 use Rattle.witness.proofs.Checks.{PassedUpTo, pass-one, fail-one, pass-all, from-number, number-none, number-first, numbers-end}
-use Rattle.witness.proofs.RowLaws.{constraints-in-row}
+use Rattle.values.proofs.RowLaws.{constraints-in-row}
 use Rattle.witness.proofs.bytes.constraints.Statement.{statement}
 use Rattle.witness.proofs.bytes.constraints.Tie as tie
 

@@ -7,8 +7,8 @@ use native.Mathlib.Omega.{arith}
 use lib.ListN.{length, drop, getD, drop-of-length-le}
 use lib.Seq.{drop-cons}
 use borrow.Author.Tests.{lt-leb, le-leb}
-use Rattle.clauses.specs.Lists.{numbered}
-use Rattle.clauses.specs.Answers.{Check}
+use Rattle.answers.specs.Lists.{numbered}
+use Rattle.answers.specs.Answers.{Check}
 use Rattle.problem.specs.Promise.{problem-in}
 use Rattle.witness.specs.Promise.{byte-check}
 use Rattle.witness.proofs.Checks.{PassedUpTo, none-yet, pass-one, fail-one, pass-all}

@@ -7,14 +7,13 @@ use native.Mathlib.Omega.{arith}
 use lib.ListN.{length, getD}
 use borrow.Author.Needs.{needs}
 use borrow.Author.Tests.{not-true, not-false}
-use Rattle.clauses.specs.Answers.{Check, check}
-use Rattle.meaning.specs.Answers.{against-reset}
+use Rattle.answers.specs.Answers.{Check, check, against-reset}
 use Rattle.meaning.specs.Problem.{Problem, latch}
 use Rattle.meaning.specs.Runs.{meets-reset}
 use Rattle.meaning.specs.Witnesses.{first-latches, reset-checks}
 use Rattle.problem.specs.Promise.{problem-in}
 use Rattle.problem.proofs.Outlines.{Shows, shows}
-use Rattle.witness.proofs.Copies.{bit-at}
+use Rattle.values.proofs.Copies.{bit-at}
 use Rattle.witness.proofs.Checks.{PassedUpTo, pass-one, fail-one, pass-all, from-number, number-none, number-first, numbers-end}
 use Rattle.witness.proofs.bytes.resets.Statement.{statement}
 use Rattle.witness.proofs.bytes.resets.Tie as tie

@@ -5,13 +5,13 @@ use mathlib.Core.List.{List}
 use Prim.Native.Nat.{ℕ}
 use lib.ListN.{length, length-replicate}
 use native.Mathlib.Omega.{arith}
-use Rattle.meaning.specs.Limits.{inputs-limit, latches-limit, gates-limit, bound-limit}
+use Rattle.answers.specs.Limits.{inputs-limit, latches-limit, gates-limit, bound-limit}
 use Rattle.meaning.specs.Problem.{Problem}
 use Rattle.meaning.specs.Witnesses.{witness-length, byte-checks, reset-checks}
 use Rattle.problem.specs.Promise.{problem-in}
 use Rattle.problem.proofs.Outlines.{shows, bound-small}
 use Rattle.witness.specs.declared.WitnessAnswer.the-variants.{Yes}
-use Rattle.witness.specs.Tables.{row-width, rows-room}
+use Rattle.values.specs.Tables.{row-width, rows-room}
 use Rattle.witness.specs.Promise.{AnsweredBy}
 use Rattle.witness.proofs.Judging.{yes-if-first, refuses-if-later, refused-first, yes-first, length-right, start-right, from-loop, from-resets, judged}
 use borrow.Author.Needs.{needs}
@@ -57,7 +57,7 @@ bytes-right-requires : tie.Need-bytes-right-requires
 bytes-right-requires c κs =
     let s = c .before .before in
     let z = shows (s .args .s) (s .args .words .now) in
-    (omega (arith, s .pre .proper .inputs-within), bound-small (s .pre))
+    (omega (arith, s .pre .proper .inputs-within), omega (arith, s .pre .proper .latches-within), bound-small (s .pre))
 
 enum-told : tie.Need-enum-told
 enum-told c = search needs

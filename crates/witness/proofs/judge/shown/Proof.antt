@@ -11,11 +11,10 @@ use Rattle.meaning.specs.Witnesses.{byte, rows, shape, loop-checks, position-ch
 use Rattle.problem.specs.Promise.{problem-in}
 use Rattle.problem.proofs.Outlines.{bound-small}
 use Rattle.witness.specs.declared.WitnessAnswer.{WitnessAnswer}
-use Rattle.witness.specs.declared.WitnessAnswer.the-variants.{Yes}
 use Rattle.witness.specs.Promise.{AnsweredBy}
 use Rattle.witness.proofs.Checks.{none-yet, fail-one, after-one, pass-all}
 use Rattle.witness.proofs.Judging.{yes-if-first, refuses-if-later, refused-first, yes-first, from-positions, from-loop}
-use Rattle.witness.proofs.ValueShown.{value-shown}
+use Rattle.values.proofs.ValueShown.{value-shown}
 use Rattle.witness.proofs.judge.shown.Statement.{statement}
 use Rattle.witness.proofs.judge.shown.Tie as tie
 

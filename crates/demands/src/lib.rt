@@ -1,0 +1,1 @@
+// The page to sign: the demands as theorems of the calls, in proofs/Demands.antt.

@@ -1,0 +1,2 @@
+-- What the answers exclude.
+pub mod Lazy
