@@ -22,7 +22,7 @@ use Rattle.aiger.specs.Circuits.{circuit-parts}
 use Rattle.aiger.specs.Texts.{circuit-text, circuit-read}
 use Rattle.aiger.specs.Calls.{room-check, read-answer, room-after-reading, write-answer, room-after-writing}
 use Rattle.aiger.specs.Promise.{answer-of, ReadAs, WrittenAs}
-use Rattle.aiger.proofs.CheckedCircuit.{GoodCircuit, good-by-number, more-if-good}
+use Rattle.aiger.proofs.CheckedCircuit.{good-by-number, more-if-good}
 use Rattle.aiger.proofs.Unique.{same-outcome, read-unique, written-unique}
 use Rattle.aiger.proofs.Unread.{read-without-rest}
 

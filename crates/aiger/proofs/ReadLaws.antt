@@ -1,16 +1,16 @@
 -- What a circuit's text reads as, by how far its header and its lines were read, and the answer and the room by that. Assumes nothing.
 use mathlib.Core.Path.{_≡_, refl, sym, _∙_, ap}
-use mathlib.Core.Bool.{Bool, true, false, cond}
+use mathlib.Core.Bool.{true, false}
 use mathlib.Core.List.{List, []}
 use Prim.Native.Nat.{ℕ, _+_, _*_, _≤_, _<_}
 use native.Mathlib.Omega.{arith}
-use borrow.Author.Tests.{le-leb, lt-leb, eq-eqb, ne-eqb, eqb-true}
+use borrow.Author.Tests.{le-leb, lt-leb, eq-eqb, ne-eqb}
 use lib.Dec.{leb, eqb}
 use lib.ListN.{length, take, drop, length-take, take-append-drop}
 use lib.Seq.{take-append-seam, getD-take}
 use Rattle.answers.specs.Lists.{written}
 use Rattle.answers.specs.Limits.{longest-text, inputs-limit, latches-limit, outputs-limit, gates-limit}
-use Rattle.text.specs.Readings.{Reading, found, fault, and-then, in-turn}
+use Rattle.text.specs.Readings.{found, fault, and-then, in-turn}
 use Rattle.text.proofs.ReadingLaws.{ahead-none}
 use Rattle.meaning.specs.Problem.{word}
 use Rattle.aiger.specs.Circuits.{Sizes}
