@@ -31,20 +31,20 @@ pub fn find(version: u32, words: &[u32], room: &mut [u8]) -> Answer {
         return answer(18, needed);
     };
     match Search::new(problem, free).first() {
-        Some((loop_byte, run)) => {
-            write(&problem, loop_byte, &run, room);
+        Some((first, run)) => {
+            write(&problem, first, &run, room);
             answer(0, needed)
         }
         None => answer(29, 0),
     }
 }
 
-/// The bytes of a witness: its loop byte, the latches, the inputs of each position.
-fn write(problem: &Problem, loop_byte: usize, run: &Run, room: &mut [u8]) {
+/// The bytes of a witness: its first, the latches, the inputs of each position.
+fn write(problem: &Problem, first: usize, run: &Run, room: &mut [u8]) {
     let inputs = problem.inputs;
     let latches = &run[0][inputs..][..problem.latches.len()];
     let bits = latches.iter().chain(run[..=problem.bound].iter().flat_map(|row| &row[..inputs]));
-    room[0] = loop_byte as u8;
+    room[0] = first as u8;
     for (byte, &bit) in room[1..].iter_mut().zip(bits) {
         *byte = u8::from(bit);
     }
@@ -102,14 +102,14 @@ impl<'a> Search<'a> {
         true
     }
 
-    /// Whether the run with this loop byte is a witness; a loop that does not close costs no node.
-    fn shows(&mut self, loop_byte: usize) -> bool {
-        let start = loop_byte.checked_sub(1);
+    /// Whether the run with this first byte is a witness; a loop that does not close costs no node.
+    fn shows(&mut self, first: usize) -> bool {
+        let start = first.checked_sub(1);
         start.is_none_or(|start| check_loop(&self.problem, &self.rows, start).is_ok())
             && formula(&self.problem, &self.rows, start, &mut self.truth)
     }
 
-    /// The lowest loop byte of a witness, and the run that has it first. The runs rise, so from then on a lower byte alone will do.
+    /// The lowest first byte of a witness, and the run that has it first. The runs rise, so from then on a lower byte alone will do.
     fn first(mut self) -> Option<(usize, Run)> {
         let mut found = None;
         let mut below = self.problem.bound + 2;
@@ -118,9 +118,9 @@ impl<'a> Search<'a> {
             if !self.value_rows() {
                 continue;
             }
-            if let Some(loop_byte) = (0..below).find(|&byte| self.shows(byte)) {
-                found = Some((loop_byte, self.run));
-                below = loop_byte;
+            if let Some(first) = (0..below).find(|&first| self.shows(first)) {
+                found = Some((first, self.run));
+                below = first;
             }
             if below == 0 {
                 break;

@@ -82,7 +82,7 @@ fn place_clauses(cnf: &[i32], places: &mut [u64]) {
 }
 
 /// What a hint's clause gives under the values so far.
-enum Outcome {
+enum Found {
     Conflict,
     Unit(i32),
     Neither,
@@ -121,7 +121,7 @@ impl Judge<'_> {
         None
     }
 
-    fn outcome(&self, stamp: u64, number: usize) -> Outcome {
+    fn find(&self, stamp: u64, number: usize) -> Found {
         let from = self.places[number - 1] as usize;
         let words = if number <= self.clauses { &self.cnf[from..] } else { &self.refutation[from..] };
         let mut unit = 0;
@@ -134,14 +134,14 @@ impl Judge<'_> {
                 continue;
             }
             if value == mark(stamp, literal) || (unit != 0 && unit != literal) {
-                return Outcome::Neither;
+                return Found::Neither;
             }
             unit = literal;
         }
         if unit == 0 {
-            Outcome::Conflict
+            Found::Conflict
         } else {
-            Outcome::Unit(unit)
+            Found::Unit(unit)
         }
     }
 
@@ -151,10 +151,10 @@ impl Judge<'_> {
             if hint == 0 {
                 return None;
             }
-            match self.outcome(stamp, hint as usize) {
-                Outcome::Conflict => return (hints[n + 1] == 0).then_some(n + 1),
-                Outcome::Unit(literal) => self.values[variable(literal)] = mark(stamp, literal),
-                Outcome::Neither => return None,
+            match self.find(stamp, hint as usize) {
+                Found::Conflict => return (hints[n + 1] == 0).then_some(n + 1),
+                Found::Unit(literal) => self.values[variable(literal)] = mark(stamp, literal),
+                Found::Neither => return None,
             }
         }
         None

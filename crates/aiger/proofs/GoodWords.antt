@@ -1,10 +1,10 @@
 -- `read_good`: the words of a text that is read without fault pass the check of a circuit's words. Assumes nothing.
-use mathlib.Core.Path.{◌≡◌, refl, sym, ◌∙◌, ap}
+use mathlib.Core.Path.{◌≡◌, refl, sym, ◌∙◌, ap, subst}
 use mathlib.Core.Bool.{Bool, true, false, cond}
 use mathlib.Core.List.{List, [], ◌∷◌, ◌++◌, append_assoc}
 use Prim.Native.Nat.{ℕ, zero, suc, ◌+◌, ◌*◌, ◌≤◌, ◌<◌}
 use native.Mathlib.Omega.{arith}
-use borrow.Author.Tests.{leb-true, ltb-true, eqb-true}
+use borrow.Author.Tests.{leb-true, ltb-true}
 use lib.Dec.{eqb}
 use lib.ListN.{length, get_or, take, drop, length-append, get_or-append}
 use lib.Seq.{drop-drop, get_or-append-add}
@@ -16,10 +16,9 @@ use Rattle.meaning.specs.Proper.{LatchRight, GateRight}
 use Rattle.aiger.specs.Circuits.{Sizes, circuit, output_place, words_in_all}
 use Rattle.aiger.specs.Texts.{largest_variable, opening, lines_due, sizes_read, in_order, ordered, variable_place, after_opening, circuit_read}
 use Rattle.aiger.specs.Reads.{numbers_kept, Fitting}
-use Rattle.aiger.proofs.Kept.{Test, pass, pass_length, pass_append, pass_first, pass_second, pass_at, each_length, kept_found}
-use Rattle.aiger.proofs.KeptNumbers.{latch_tests, output_tests, gate_tests, lines_tests, lines_pass, lines_count, opening_kept, in_order_length}
+use Rattle.aiger.proofs.Kept.{Test, pass, pass_length, pass_append, pass_first, pass_second, pass_at, each_length, Keeping}
+use Rattle.aiger.proofs.KeptNumbers.{latch_tests, output_tests, gate_tests, lines_tests, lines_pass, lines_count, opening_tests, opening_passes, Opened, opened_if, in_order_length}
 use Rattle.aiger.proofs.CheckedCircuit.{GoodCircuit}
-use Rattle.aiger.proofs.Exact.{numbers_in, place_in, left_in, not_found}
 
 -- ════════ Tests by place ════════
 
@@ -170,49 +169,33 @@ words_good s ns f e =
       outputs_right = output_right s ns e;
     }
 
--- The header's numbers, and those of the lines after it.
-pub record HeaderRead (x : Reading) (ws : List ℕ) (p : ℕ) (left : List ℕ) : Type 0 where
-  pub header : List ℕ
-  pub place : ℕ
-  pub rest : List ℕ
-  pub kept : List ℕ
-  pub header_is : x ≡ found header place rest
-  pub variables_are : word header 0 ≡ largest_variable (sizes_read header)
-  pub lines_are : in_turn (lines_due (sizes_read header)) place rest ≡ found kept p left
-  pub words_made : ws ≡ in_order (sizes_read header) kept
+abbrev Good : Reading → Type 0
+Good (found ws p t) = GoodCircuit ws
+Good (fault p) = Unit {0}
 
-pub header_read : (x : Reading) (ws : List ℕ) (p : ℕ) (left : List ℕ) → after_opening x ≡ found ws p left → HeaderRead x ws p left
-header_read (fault o) ws p left e = absurd (not_found e)
-header_read (found hs q u) ws p left e = judged (eqb (word hs 0) (largest_variable (sizes_read hs))) refl e
+ordered_good : (s : Sizes) → Fitting s → (r : Reading) → Keeping (lines_tests s) r → Good (ordered s r)
+ordered_good s f (found ns p t) e = words_good s ns f e
+ordered_good s f (fault p) e = tt
+
+opened_good : (ns : List ℕ) (p : ℕ) (t : List ℕ) → Opened ns → Good (after_opening (found ns p t))
+opened_good ns p t o = go (eqb (word ns 0) (largest_variable (sizes_read ns)))
   where
-    lines : word hs 0 ≡ largest_variable (sizes_read hs) → (y : Reading) → in_turn (lines_due (sizes_read hs)) q u ≡ y
-        → ordered (sizes_read hs) y ≡ found ws p left → HeaderRead (found hs q u) ws p left
-    lines m (fault o) f g = absurd (not_found g)
-    lines m (found ns o v) f g =
-        record {
-          header = hs;
-          place = q;
-          rest = u;
-          kept = ns;
-          header_is = refl;
-          variables_are = m;
-          lines_are = f ∙ ap (λ (k : ℕ). found ns k v) (ap place_in g) ∙ ap (found ns p) (ap left_in g);
-          words_made = sym (ap numbers_in g);
-        }
+    fits : Fitting (sizes_read ns)
+    fits = record {
+      inputs_within = o.inputs_within;
+      latches_within = o.latches_within;
+      gates_within = o.gates_within;
+      outputs_within = o.outputs_within;
+    }
 
-    judged : (b : Bool) → eqb (word hs 0) (largest_variable (sizes_read hs)) ≡ b
-        → cond b (ordered (sizes_read hs) (in_turn (lines_due (sizes_read hs)) q u)) (fault variable_place) ≡ found ws p left
-        → HeaderRead (found hs q u) ws p left
-    judged true f g = lines (eqb-true (word hs 0) (largest_variable (sizes_read hs)) f) (in_turn (lines_due (sizes_read hs)) q u) refl g
-    judged false f g = absurd (not_found g)
+    go : (b : Bool) → Good (cond b (ordered (sizes_read ns) (in_turn (lines_due (sizes_read ns)) p t)) (fault variable_place))
+    go true = ordered_good (sizes_read ns) fits (in_turn (lines_due (sizes_read ns)) p t) (lines_pass (sizes_read ns) p t)
+    go false = tt
+
+after_good : (r : Reading) → Keeping opening_tests r → Good (after_opening r)
+after_good (found ns p t) e = opened_good ns p t (opened_if ns e)
+after_good (fault p) e = tt
 
 pub read_good : (text ws : List ℕ) (p : ℕ) (left : List ℕ) → circuit_read text ≡ found ws p left → GoodCircuit ws
 unfolding circuit_read
-read_good text ws p left e =
-    let d = header_read (in_turn opening 0 text) ws p left e in
-    let s = sizes_read d.header in
-    let o = opening_kept 0 text d.header_is in
-    let fits : Fitting s =
-    record { inputs_within = o.inputs_within; latches_within = o.latches_within; gates_within = o.gates_within; outputs_within = o.outputs_within } in
-    let made : ws ≡ in_order s d.kept = d.words_made in
-    rw made (words_good s d.kept fits (kept_found (lines_tests s) (lines_pass s d.place d.rest) d.lines_are))
+read_good text ws p left e = subst Good e (after_good (in_turn opening 0 text) (opening_passes 0 text))

@@ -4,7 +4,7 @@ use mathlib.Core.Path.{◌≡◌, refl, ◌∙◌}
 use mathlib.Core.Logic.{◌⊎◌, inl, inr}
 use mathlib.Core.Bool.{Bool, true, false, cond, ◌||◌, false≢true}
 use mathlib.Core.List.{List, [], ◌∷◌, ◌++◌, map}
-use Prim.Native.Nat.{ℕ, ◌≤◌}
+use Prim.Native.Nat.{ℕ, ◌+◌, ◌≤◌}
 use native.Mathlib.Omega.{arith}
 use borrow.Author.Tests.{leb-true, le-leb, eqb-true}
 use lib.Dec.{leb, eqb}
@@ -23,13 +23,13 @@ use Rattle.aiger.proofs.Kept.{Test, pass, pass_length, pass_at, each_length, Kee
 
 -- ════════ The header ════════
 
-abbrev opening_tests : List Test
+abbrev pub opening_tests : List Test
 opening_tests = within largest_number ∷ within inputs_limit ∷ within latches_limit ∷ within outputs_limit ∷ within gates_limit ∷ []
 
 abbrev spaced : Keeper
 spaced = marked space_byte
 
-opening_passes : KeptBy opening_tests (in_turn opening)
+pub opening_passes : KeptBy opening_tests (in_turn opening)
 opening_passes =
     turn_all
     (named (bytes_of "aag")
@@ -54,17 +54,18 @@ pub record Opened (ns : List ℕ) : Type 0 where
   pub outputs_within : word ns 3 ≤ outputs_limit
   pub gates_within : word ns 4 ≤ gates_limit
 
+pub opened_if : (ns : List ℕ) → pass opening_tests ns ≡ true → Opened ns
+opened_if ns e = record {
+  five = pass_length opening_tests ns e;
+  variables_within = leb-true _ _ (pass_at opening_tests ns e 0 (omega arith));
+  inputs_within = leb-true _ _ (pass_at opening_tests ns e 1 (omega arith));
+  latches_within = leb-true _ _ (pass_at opening_tests ns e 2 (omega arith));
+  outputs_within = leb-true _ _ (pass_at opening_tests ns e 3 (omega arith));
+  gates_within = leb-true _ _ (pass_at opening_tests ns e 4 (omega arith));
+}
+
 pub opening_kept : (p : ℕ) (text : List ℕ) {ns : List ℕ} {q : ℕ} {rest : List ℕ} → in_turn opening p text ≡ found ns q rest → Opened ns
-opening_kept p text {ns} e =
-    let passed = kept_found opening_tests (opening_passes p text) e in
-    record {
-      five = pass_length opening_tests ns passed;
-      variables_within = leb-true _ _ (pass_at opening_tests ns passed 0 (omega arith));
-      inputs_within = leb-true _ _ (pass_at opening_tests ns passed 1 (omega arith));
-      latches_within = leb-true _ _ (pass_at opening_tests ns passed 2 (omega arith));
-      outputs_within = leb-true _ _ (pass_at opening_tests ns passed 3 (omega arith));
-      gates_within = leb-true _ _ (pass_at opening_tests ns passed 4 (omega arith));
-    }
+opening_kept p text {ns} e = opened_if ns (kept_found opening_tests (opening_passes p text) e)
 
 -- ════════ A latch's reset ════════
 

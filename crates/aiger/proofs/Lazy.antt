@@ -2,15 +2,15 @@
 -- it shows. Assumes nothing.
 use mathlib.Core.Path.{◌≡◌, refl, sym, ◌∙◌, ap}
 use mathlib.Core.Bool.{Bool, true, false, cond}
-use mathlib.Core.List.{List, ◌++◌}
+use mathlib.Core.List.{List, [], ◌∷◌, ◌++◌}
 use Prim.Native.Nat.{ℕ, ◌≤◌, ◌<◌}
 use native.Mathlib.Omega.{arith}
 use borrow.Author.Tests.{le-leb, lt-leb, ne_eqb}
 use lib.Dec.{leb}
 use lib.ListN.{length, get_or, take}
 use Rattle.answers.specs.Lists.{written}
-use Rattle.answers.specs.Answers.{granted, output_room_too_small}
-use Rattle.answers.proofs.Answers.{number_of, place_of}
+use Rattle.answers.specs.Answers.{Answer, Check, first_failing_part, granted, output_room_too_small}
+use Rattle.answers.proofs.Answers.{number_of, place_of, parts_append}
 use Rattle.answers.specs.Limits.{longest_text}
 use Rattle.text.specs.Readings.{found, fault}
 use Rattle.problem.specs.declared.Refusal.TheVariants.{BadVersion, BadNode}
@@ -18,10 +18,11 @@ use Rattle.problem.specs.Promise.{refusal_answer}
 use Rattle.problem.proofs.Unique.{refusal_not_yes}
 use Rattle.aiger.specs.declared.Outcome.{Outcome}
 use Rattle.aiger.specs.declared.Outcome.TheVariants.{Done, BadText, Circuit, RoomTooSmall}
+use Rattle.aiger.specs.Circuits.{circuit_parts}
 use Rattle.aiger.specs.Texts.{circuit_text, circuit_read}
-use Rattle.aiger.specs.Calls.{read_answer, room_after_reading, write_answer, room_after_writing}
-use Rattle.aiger.specs.Promise.{circuit_answer, ReadAs, WrittenAs}
-use Rattle.aiger.proofs.WrittenAnswers.{good_at, good_answer}
+use Rattle.aiger.specs.Calls.{room_check, read_answer, room_after_reading, write_answer, room_after_writing}
+use Rattle.aiger.specs.Promise.{answer_of, ReadAs, WrittenAs}
+use Rattle.aiger.proofs.CheckedCircuit.{good_by_number, more_if_good}
 use Rattle.aiger.proofs.Unique.{same_outcome, read_unique, written_unique}
 use Rattle.aiger.proofs.Unread.{read_without_rest}
 
@@ -47,11 +48,11 @@ module _ (x : Call) {r : Outcome} {right : List ℕ} (m : x.Meets r right) {s : 
   pub other_outcome : ¬ (s ≡ r) → Breaks x s after
   other_outcome h j = h (x.decides s r after right j m).0
 
-  pub other_number : ¬ ((circuit_answer s).number ≡ (circuit_answer r).number) → Breaks x s after
-  other_number h = other_outcome (λ e. h (number_of (ap circuit_answer e)))
+  pub other_number : ¬ ((answer_of s).number ≡ (answer_of r).number) → Breaks x s after
+  other_number h = other_outcome (λ e. h (number_of (ap answer_of e)))
 
-  pub other_place : ¬ ((circuit_answer s).place ≡ (circuit_answer r).place) → Breaks x s after
-  other_place h = other_outcome (λ e. h (place_of (ap circuit_answer e)))
+  pub other_place : ¬ ((answer_of s).place ≡ (answer_of r).place) → Breaks x s after
+  other_place h = other_outcome (λ e. h (place_of (ap answer_of e)))
 
   pub other_room : ¬ (after ≡ right) → Breaks x s after
   other_room h j = h (x.decides s r after right j m).1
@@ -113,15 +114,22 @@ other_text_breaks ws room after n h j = h j.room_after
 
 -- Writing answers 0 to 4 or 27.
 module _ (ws : List ℕ) (room : ℕ) where
-  by_room : (k : ℕ) → 4 < k → (k ≡ 27 → ⊥) → (b : Bool)
-      → (cond b (granted (length (circuit_text ws))) (output_room_too_small (length (circuit_text ws)))).number ≡ k → ⊥
+  abbrev more : List (List Check)
+  more = (room_check (length (circuit_text ws)) room ∷ []) ∷ []
+
+  abbrev at_yes : Answer
+  at_yes = granted (length (circuit_text ws))
+
+  by_room : (k : ℕ) → 4 < k → (k ≡ 27 → ⊥) → (b : Bool) → (cond b at_yes (output_room_too_small (length (circuit_text ws)))).number ≡ k → ⊥
   by_room k over other true e = omega arith
   by_room k over other false e = other (sym e)
 
   no_other_number : (k : ℕ) → 4 < k → (k ≡ 27 → ⊥) → (write_answer ws room).number ≡ k → ⊥
+  unfolding write_answer
   no_other_number k over other e =
-      let good = good_at ws room k (λ n l h z. omega arith) e in
-      by_room k over other (leb (length (circuit_text ws)) room) (sym (number_of (good_answer ws room good)) ∙ e)
+      let by_parts = sym (number_of (parts_append (circuit_parts ws) more at_yes)) ∙ e in
+      let good = good_by_number ws k (first_failing_part more at_yes) (λ n l h z. omega arith) by_parts in
+      by_room k over other (leb (length (circuit_text ws)) room) (sym (number_of (more_if_good ws more at_yes good)) ∙ e)
 
 -- 15, or 5: a circuit has neither a version nor nodes.
 module _ (ws room after : List ℕ) where

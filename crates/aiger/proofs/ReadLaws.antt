@@ -17,10 +17,10 @@ use Rattle.aiger.specs.Circuits.{Sizes}
 use Rattle.aiger.specs.Texts.{opening, lines_due, sizes_read, largest_variable, variable_place, in_order, ordered, after_opening, circuit_read}
 use Rattle.aiger.specs.Calls.{read_answer, room_after_reading}
 use Rattle.aiger.specs.Promise.{ReadAs}
-use Rattle.aiger.specs.Reads.{Fitting, reached, FoundWords, numbers_kept, LinesRight}
+use Rattle.aiger.specs.Reads.{Fitting, reached, FoundWords, numbers_kept, Judged}
 use Rattle.aiger.specs.declared.Outcome.TheVariants.{Done, BadText, RoomTooSmall}
 use Rattle.aiger.specs.declared.due.Reached.{Reached}
-use Rattle.aiger.specs.declared.read.LinesRead.{LinesRead}
+use Rattle.aiger.specs.declared.read.Judgement.{Judgement}
 use Rattle.aiger.proofs.KeptNumbers.{Opened, opening_kept, lines_kept}
 
 -- ════════ How far a text was read ════════
@@ -120,7 +120,7 @@ module _ (text : List ℕ) (s : Sizes) (p : ℕ) (t table : List ℕ) (r : Reach
         ap (ordered s) is ∙ ap (λ (ns : List ℕ). found (in_order s ns) r.place (drop r.place text)) kept
 
 -- A judgement under another name.
-pub judged_by : {text : List ℕ} {r r' : LinesRead} {table : List ℕ} → r ≡ r' → LinesRight text r table → LinesRight text r' table
+pub judged_by : {text : List ℕ} {r r' : Judgement} {table : List ℕ} → r ≡ r' → Judged text r table → Judged text r' table
 judged_by e j = rw e at j
 
 -- ════════ The table's length ════════

@@ -10,7 +10,7 @@ use Rattle.problem.specs.declared.Refusal.TheVariants.{BadVersion, BadLength, Ou
 use Rattle.aiger.specs.declared.Outcome.{Outcome}
 use Rattle.aiger.specs.declared.Outcome.TheVariants.{Done, BadText, Circuit, RoomTooSmall}
 use Rattle.aiger.specs.Calls.{room_after_reading, room_after_writing}
-use Rattle.aiger.specs.Promise.{circuit_answer, ReadAs, WrittenAs}
+use Rattle.aiger.specs.Promise.{answer_of, ReadAs, WrittenAs}
 
 -- ════════ The outcome of an answer ════════
 
@@ -31,7 +31,7 @@ past_5 number p = cond (eqb number 19) (BadText p) (cond (eqb number 27) (RoomTo
 abbrev outcome_back : Answer → Outcome
 outcome_back a = get_or by_number a.number (past_5 a.number) a.place
 
-outcome_back_of : (r : Outcome) → outcome_back (circuit_answer r) ≡ r
+outcome_back_of : (r : Outcome) → outcome_back (answer_of r) ≡ r
 outcome_back_of (Done n) = refl
 outcome_back_of (BadText p) = refl
 outcome_back_of (Circuit BadVersion) = refl
@@ -43,7 +43,7 @@ outcome_back_of (Circuit (BadNode i)) = refl
 outcome_back_of (RoomTooSmall n) = refl
 
 -- Outcomes with one answer are one.
-pub same_outcome : {r r' : Outcome} → circuit_answer r ≡ circuit_answer r' → r ≡ r'
+pub same_outcome : {r r' : Outcome} → answer_of r ≡ answer_of r' → r ≡ r'
 same_outcome {r} {r'} e = sym (outcome_back_of r) ∙ ap outcome_back e ∙ outcome_back_of r'
 
 -- ════════ The promises ════════

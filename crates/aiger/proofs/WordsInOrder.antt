@@ -93,7 +93,12 @@ module _ (ws : List ℕ) (length_right : length ws ≡ words_in_all (sizes ws)) 
   within n at h = length-take-le n (drop at ws) (rw (length-drop at ws) (omega arith))
 
   header_is : take 4 ws ≡ (sizes ws).inputs ∷ (sizes ws).latches ∷ (sizes ws).gates ∷ (sizes ws).outputs ∷ []
-  header_is = sym (ones ws 0 4 (omega arith))
+  header_is =
+      let w0 : drop 0 ws ≡ word ws 0 ∷ drop 1 ws = drop-cons ws 0 0 (omega arith) in
+      let w1 : drop 1 ws ≡ word ws 1 ∷ drop 2 ws = drop-cons ws 1 0 (omega arith) in
+      let w2 : drop 2 ws ≡ word ws 2 ∷ drop 3 ws = drop-cons ws 2 0 (omega arith) in
+      let w3 : drop 3 ws ≡ word ws 3 ∷ drop 4 ws = drop-cons ws 3 0 (omega arith) in
+      ap (take 4) (w0 ∙ ap (λ (l : List ℕ). word ws 0 ∷ l) (w1 ∙ ap (λ (l : List ℕ). word ws 1 ∷ l) (w2 ∙ ap (λ (l : List ℕ). word ws 2 ∷ l) w3)))
 
   pub words_are : in_order (sizes ws) ((latch_numbers (sizes ws) ws ++ output_numbers (sizes ws) ws) ++ gate_numbers (sizes ws) ws) ≡ ws
   words_are =

@@ -1,14 +1,13 @@
 -- What writing answers: the check's refusal, the bytes needed, or those written. Assumes nothing.
 use mathlib.Core.Path.{◌≡◌, refl, sym, ◌∙◌, ap}
-use mathlib.Core.Bool.{true, false, cond}
+use mathlib.Core.Bool.{true, false}
 use mathlib.Core.List.{List, [], ◌∷◌}
 use Prim.Native.Nat.{ℕ, ◌≤◌, ◌<◌}
 use native.Mathlib.Omega.{arith}
 use borrow.Author.Tests.{le-leb, lt-leb, ne_eqb}
 use lib.Dec.{leb, eqb}
 use lib.ListN.{length}
-use Rattle.answers.specs.Answers.{Answer, Check, first_failing_part, granted, output_room_too_small}
-use Rattle.answers.proofs.Answers.{number_of, parts_append}
+use Rattle.answers.specs.Answers.{Check, granted}
 use Rattle.answers.specs.Limits.{longest_text}
 use Rattle.text.specs.Promise.{largest_size}
 use Rattle.problem.specs.declared.Refusal.{Refusal}
@@ -20,30 +19,15 @@ use Rattle.aiger.specs.declared.Outcome.TheVariants.{Done, Circuit, RoomTooSmall
 use Rattle.aiger.specs.Circuits.{Sizes, sizes, circuit_parts}
 use Rattle.aiger.specs.Texts.{sized_text, circuit_text}
 use Rattle.aiger.specs.Calls.{room_check, write_answer, room_after_writing}
-use Rattle.aiger.specs.Promise.{circuit_answer, WrittenAs}
+use Rattle.aiger.specs.Promise.{answer_of, WrittenAs}
 use Rattle.aiger.specs.Reads.{Fitting}
 use Rattle.aiger.specs.Writes.{Lays}
-use Rattle.aiger.proofs.CheckedCircuit.{GoodCircuit, good_by_number, more_if_good, refused_whatever}
+use Rattle.aiger.proofs.CheckedCircuit.{GoodCircuit, more_if_good, refused_whatever}
 use Rattle.aiger.proofs.TextLengths.{text_within}
 
--- What is checked after the words: the room.
-module _ (ws : List ℕ) (room : ℕ) where
-  abbrev room_part : List (List Check)
-  room_part = (room_check (length (circuit_text ws)) room ∷ []) ∷ []
-
-  -- A number that no check of the words has comes from the room.
-  pub good_at : (k : ℕ) → ((n : ℕ) → 1 ≤ n → n ≤ 4 → n ≡ k → ⊥) → (write_answer ws room).number ≡ k → GoodCircuit ws
-  unfolding write_answer
-  good_at k other e =
-      good_by_number ws k (first_failing_part room_part (granted (length (circuit_text ws)))) other
-      (sym (number_of (parts_append (circuit_parts ws) room_part (granted (length (circuit_text ws))))) ∙ e)
-
-  abbrev pub room_answer : Answer
-  room_answer = cond (leb (length (circuit_text ws)) room) (granted (length (circuit_text ws))) (output_room_too_small (length (circuit_text ws)))
-
-  pub good_answer : GoodCircuit ws → write_answer ws room ≡ room_answer
-  unfolding write_answer
-  good_answer good = more_if_good ws room_part (granted (length (circuit_text ws))) good
+-- What is checked after the words.
+abbrev room_part : List ℕ → List ℕ → List (List Check)
+room_part ws room = (room_check (length (circuit_text ws)) (length room) ∷ []) ∷ []
 
 -- ════════ A refusal by the check ════════
 
@@ -53,7 +37,7 @@ module _ (ws room : List ℕ) {f : Refusal} (a : Answers (circuit_parts ws) (Ref
   refused =
       let no : eqb (refusal_answer f).number 0 ≡ false = ne_eqb _ 0 (refusal_not_yes f) in
       record {
-        answered = sym (refused_whatever ws (room_part ws (length room)) (granted (length (circuit_text ws))) a);
+        answered = sym (refused_whatever ws (room_part ws room) (granted (length (circuit_text ws))) a);
         room_after = rw no;
       }
 
@@ -73,24 +57,24 @@ module _ {ws : List ℕ} (good : GoodCircuit ws) {s : Sizes} (e : s ≡ sizes ws
 
   module _ (room : List ℕ) {n : ℕ} {o p : List ℕ} (measured : Lays (sized_text s ws) 0 o n p) where
     pub short : length room < n → WrittenAs ws room (RoomTooSmall n) room
-    unfolding room_after_writing
+    unfolding write_answer room_after_writing
     short h =
         let long : leb (length (circuit_text ws)) (length room) ≡ false = lt-leb (length (circuit_text ws)) (length room) (omega (arith, length_told measured)) in
         record {
           answered =
-              ap (λ k. circuit_answer (RoomTooSmall k)) (length_told measured)
-              ∙ sym (good_answer ws (length room) good ∙ rw long);
+              ap (λ k. answer_of (RoomTooSmall k)) (length_told measured)
+              ∙ sym (more_if_good ws (room_part ws room) (granted (length (circuit_text ws))) good ∙ rw long);
           room_after = refl;
         }
 
     pub done : n ≤ length room → {m : ℕ} {after : List ℕ} → Lays (sized_text s ws) 0 room m after → WrittenAs ws room (Done n) after
-    unfolding room_after_writing
+    unfolding write_answer room_after_writing
     done h a =
         let told = length_told measured in
         let fits : leb (length (circuit_text ws)) (length room) ≡ true = le-leb (length (circuit_text ws)) (length room) (omega arith) in
         record {
           answered =
-              ap (λ k. circuit_answer (Done k)) told
-              ∙ sym (good_answer ws (length room) good ∙ rw fits);
+              ap (λ k. answer_of (Done k)) told
+              ∙ sym (more_if_good ws (room_part ws room) (granted (length (circuit_text ws))) good ∙ rw fits);
           room_after = (as_circuit a).held (omega arith);
         }

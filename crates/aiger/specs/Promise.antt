@@ -7,18 +7,18 @@ use Rattle.aiger.specs.declared.Outcome.{Outcome}
 use Rattle.aiger.specs.declared.Outcome.TheVariants.{Done, BadText, Circuit, RoomTooSmall}
 
 -- The number and the place of each outcome.
-abbrev pub circuit_answer : Outcome → Answer
-circuit_answer (Done n) = granted n
-circuit_answer (BadText p) = bad_text p
-circuit_answer (Circuit f) = refusal_answer f
-circuit_answer (RoomTooSmall n) = output_room_too_small n
+abbrev pub answer_of : Outcome → Answer
+answer_of (Done n) = granted n
+answer_of (BadText p) = bad_text p
+answer_of (Circuit f) = refusal_answer f
+answer_of (RoomTooSmall n) = output_room_too_small n
 
 -- Reading: its answer, and the word room after it.
 pub record ReadAs (text before : List ℕ) (r : Outcome) (after : List ℕ) : Type 0 where
-  pub answered : circuit_answer r ≡ read_answer text (length before)
-  pub room_after : after ≡ room_after_reading (circuit_answer r) text before
+  pub answered : answer_of r ≡ read_answer text (length before)
+  pub room_after : after ≡ room_after_reading (answer_of r) text before
 
 -- Writing: its answer, and the text room after it.
 pub record WrittenAs (ws before : List ℕ) (r : Outcome) (after : List ℕ) : Type 0 where
-  pub answered : circuit_answer r ≡ write_answer ws (length before)
-  pub room_after : after ≡ room_after_writing (circuit_answer r) ws before
+  pub answered : answer_of r ≡ write_answer ws (length before)
+  pub room_after : after ≡ room_after_writing (answer_of r) ws before

@@ -6,8 +6,8 @@ use Rattle.answers.specs.Limits.{inputs_limit, latches_limit, gates_limit, outpu
 use Rattle.aiger.specs.Circuits as circuits
 use Rattle.aiger.specs.Texts.{input_literal, latch_literal, gate_literal, input_due, latch_due, output_due, gate_due, in_order, circuit_read}
 use Rattle.aiger.specs.declared.due.Reached.{Reached}
-use Rattle.aiger.specs.declared.read.LinesRead.{LinesRead}
-use Rattle.aiger.specs.declared.read.LinesRead.TheVariants.{Good, Fault}
+use Rattle.aiger.specs.declared.read.Judgement.{Judgement}
+use Rattle.aiger.specs.declared.read.Judgement.TheVariants.{Good, Fault}
 use Rattle.aiger.specs.declared.sizes.Sizes.{Sizes}
 use Rattle.aiger.specs.declared.sizes.Kind.{Kind}
 use Rattle.aiger.specs.declared.sizes.Kind.TheVariants.{Input, Latch, Output, Gate}
@@ -76,10 +76,10 @@ abbrev pub numbers_kept : circuits.Sizes → ℕ
 numbers_kept s = 2 * s.latches + s.outputs + 2 * s.gates
 
 -- Where the lines are good, the words are those that the table shows, by the sizes.
-abbrev pub LinesMeant : List ℕ → LinesRead → List ℕ → Type 0
-LinesMeant text (Good s) table =
+abbrev pub JudgedAs : List ℕ → Judgement → List ℕ → Type 0
+JudgedAs text (Good s) table =
     Fitting (sizes_of s) × FoundWords (circuit_read text) (in_order (sizes_of s) (take (numbers_kept (sizes_of s)) table))
-LinesMeant text (Fault p) table = circuit_read text ≡ fault p
+JudgedAs text (Fault p) table = circuit_read text ≡ fault p
 
-pub record LinesRight (text : List ℕ) (r : LinesRead) (table : List ℕ) : Type 0 where
-  pub judged : LinesMeant text r table
+pub record Judged (text : List ℕ) (r : Judgement) (table : List ℕ) : Type 0 where
+  pub judged : JudgedAs text r table

@@ -1,12 +1,12 @@
 // The number and place of each answer.
 ghost use Rattle.std.specs.Prelude.{◌≡◌};
-ghost use Rattle.aiger.specs.Promise.{circuit_answer};
+ghost use Rattle.aiger.specs.Promise.{answer_of};
 
 use crate::Outcome;
 use problem::answer::{refusal_number, refusal_place};
 
 pub fn number(a: Outcome) -> u32
-    ensures { result ≡ (circuit_answer a).number }
+    ensures { result ≡ (answer_of a).number }
 {
     match a {
         Outcome::Done(_) => 0,
@@ -17,7 +17,7 @@ pub fn number(a: Outcome) -> u32
 }
 
 pub fn place(a: Outcome) -> usize
-    ensures { result ≡ (circuit_answer a).place }
+    ensures { result ≡ (answer_of a).place }
 {
     match a {
         Outcome::Done(n) => n,

@@ -7,9 +7,9 @@ ghost use Rattle.aiger.specs.Circuits.{circuit, header_checks, limit_checks, len
 ghost use Rattle.aiger.specs.Reads.{sizes_of, Fitting, count_of};
 ghost use Rattle.aiger.specs.Writes.{checks_of, place_of};
 
-use crate::sizes::{HEADER_WORDS, Kind, Sizes, number_of, width, words_in_all};
+use crate::sizes::{HEADER_WORDS, Kind, Sizes, count, width, words_in_all};
 use answers::limits::{GATES_LIMIT, INPUTS_LIMIT, LATCHES_LIMIT, OUTPUTS_LIMIT};
-use problem::parts::{PartAnswer, first_refusal, gate, largest_literal, latch, limit, literal};
+use problem::parts::{PartAnswer, gate, largest_literal, latch, limit, literal, then};
 use problem::read::word_at;
 use problem::{Outline, Refusal};
 
@@ -70,12 +70,12 @@ fn header(words: &[u32]) -> PartAnswer
 fn limits(words: &[u32]) -> PartAnswer
     ensures { Answers (limit_checks words.now ∷ []) result }
 {
-    let to_latches = first_refusal(
+    let to_latches = then(
         limit(words, INPUTS, 0, INPUTS_LIMIT),
         limit(words, LATCHES, 0, LATCHES_LIMIT),
     );
-    let to_gates = first_refusal(to_latches, limit(words, GATES, 0, GATES_LIMIT));
-    first_refusal(to_gates, limit(words, OUTPUTS, 0, OUTPUTS_LIMIT))
+    let to_gates = then(to_latches, limit(words, GATES, 0, GATES_LIMIT));
+    then(to_gates, limit(words, OUTPUTS, 0, OUTPUTS_LIMIT))
 }
 
 fn length(words: &[u32], s: Sizes) -> PartAnswer
@@ -104,7 +104,7 @@ pub(crate) fn place(s: Sizes, kind: Kind, i: u32) -> usize
 }
 
 // The words of one of a kind.
-fn one_of_kind(words: &[u32], s: Sizes, kind: Kind, i: u32) -> PartAnswer
+fn one(words: &[u32], s: Sizes, kind: Kind, i: u32) -> PartAnswer
     requires { Fitting (sizes_of s) × (i < count_of kind (sizes_of s)) }
     ensures { Answers (checks_of kind (sizes_of s) words.now i ∷ []) result }
 {
@@ -118,14 +118,14 @@ fn one_of_kind(words: &[u32], s: Sizes, kind: Kind, i: u32) -> PartAnswer
 }
 
 // All of a kind, in their order.
-fn all_of_kind(words: &[u32], s: Sizes, kind: Kind) -> PartAnswer
+fn all(words: &[u32], s: Sizes, kind: Kind) -> PartAnswer
     requires { Fitting (sizes_of s) }
     ensures { Answers (each_below (count_of kind (sizes_of s)) (checks_of kind (sizes_of s) words.now) ∷ []) result }
 {
-    let n = number_of(s, kind);
+    let n = count(s, kind);
     let mut i: u32 = 0;
     while i < n {
-        let r = one_of_kind(words, s, kind, i);
+        let r = one(words, s, kind, i);
         let PartAnswer::Passed = r else {
             return r;
         };
@@ -139,16 +139,16 @@ fn sized(words: &[u32], s: Sizes) -> PartAnswer
     requires { Fitting (sizes_of s) }
     ensures { Answers (sized_parts (sizes_of s) words.now) result }
 {
-    let to_latches = first_refusal(length(words, s), all_of_kind(words, s, Kind::Latch));
-    let to_gates = first_refusal(to_latches, all_of_kind(words, s, Kind::Gate));
-    first_refusal(to_gates, all_of_kind(words, s, Kind::Output))
+    let to_latches = then(length(words, s), all(words, s, Kind::Latch));
+    let to_gates = then(to_latches, all(words, s, Kind::Gate));
+    then(to_gates, all(words, s, Kind::Output))
 }
 
 // 1 to 4.
 pub(crate) fn check(words: &[u32]) -> PartAnswer
     ensures { Answers (circuit_parts words.now) result }
 {
-    let opening = first_refusal(header(words), limits(words));
+    let opening = then(header(words), limits(words));
     match opening {
         PartAnswer::Passed => sized(words, sizes(words)),
         PartAnswer::Refused(f) => PartAnswer::Refused(f),

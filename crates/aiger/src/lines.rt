@@ -5,7 +5,7 @@ ghost use Rattle.aiger.specs.Texts.{opening, below, reset_due, lines_due};
 ghost use Rattle.aiger.specs.Reads.{sizes_of, Fitting, count_of, due_of, lines_of, reached, Passes, Keeps};
 
 use crate::due::{NEWLINE, Reached, SPACE, at_most, exactly, mark, name, reset};
-use crate::sizes::{Kind, Sizes, largest_literal, literal, number_of};
+use crate::sizes::{Kind, Sizes, count, largest_literal, literal};
 use answers::limits::{GATES_LIMIT, INPUTS_LIMIT, LARGEST_NUMBER, LATCHES_LIMIT, OUTPUTS_LIMIT};
 
 // A space, and a number that is kept.
@@ -78,7 +78,7 @@ fn lines(text: &[u8], before: Reached, s: Sizes, kind: Kind, table: &mut [u32]) 
     requires { Fitting (sizes_of s) × (before.filled + 2 * count_of kind (sizes_of s) ≤ length table.old) }
     ensures { Keeps (2 * count_of kind (sizes_of s)) (in_turn (lines_of kind (sizes_of s))) text.now before table.old result table.new }
 {
-    let n = number_of(s, kind);
+    let n = count(s, kind);
     let mut now = before;
     let mut i: u32 = 0;
     while i < n {

@@ -6,7 +6,7 @@ ghost use Rattle.answers.specs.Limits.{inputs_limit, latches_limit, outputs_limi
 ghost use Rattle.aiger.specs.Circuits.{words_in_all};
 ghost use Rattle.aiger.specs.Texts.{in_order};
 ghost use Rattle.aiger.specs.Promise.{ReadAs};
-ghost use Rattle.aiger.specs.Reads.{sizes_of, Fitting, numbers_kept, LinesRight};
+ghost use Rattle.aiger.specs.Reads.{sizes_of, Fitting, numbers_kept, Judged};
 
 use crate::Outcome;
 use crate::due::Reached;
@@ -26,19 +26,19 @@ const VARIABLE_PLACE: usize = 4;
 
 // A text without fault, by its sizes, or the fault's place.
 #[derive(Drop)]
-pub(crate) enum LinesRead {
+pub(crate) enum Judgement {
     Good(Sizes),
     Fault(usize),
 }
 
 // 19 of the lines. At the end the table has the numbers that they keep.
-fn read_lines(text: &[u8], table: &mut [u32]) -> LinesRead
+fn judge(text: &[u8], table: &mut [u32]) -> Judgement
     requires { 2 * (inputs_limit + latches_limit + outputs_limit + gates_limit) ≤ length table.old }
-    ensures { LinesRight text.now result table.new }
+    ensures { Judged text.now result table.new }
 {
     let opened = opening(text, table);
     if !opened.good {
-        return LinesRead::Fault(opened.place);
+        return Judgement::Fault(opened.place);
     }
     let s = Sizes {
         inputs: table[1],
@@ -47,7 +47,7 @@ fn read_lines(text: &[u8], table: &mut [u32]) -> LinesRead
         outputs: table[3],
     };
     if table[0] != width(s) {
-        return LinesRead::Fault(VARIABLE_PLACE);
+        return Judgement::Fault(VARIABLE_PLACE);
     }
     let from = Reached {
         good: true,
@@ -56,9 +56,9 @@ fn read_lines(text: &[u8], table: &mut [u32]) -> LinesRead
     };
     let ended = all_lines(text, from, s, table);
     if !ended.good {
-        return LinesRead::Fault(ended.place);
+        return Judgement::Fault(ended.place);
     }
-    LinesRead::Good(s)
+    Judgement::Good(s)
 }
 
 // Some words from a place on, and the place after them.
@@ -94,9 +94,9 @@ pub fn read(text: &[u8], room: &mut [u32]) -> Outcome
     ensures { ReadAs text.now room.old result room.new }
 {
     let mut table = [0u32; TABLE];
-    let s = match read_lines(text, &mut table) {
-        LinesRead::Good(s) => s,
-        LinesRead::Fault(place) => return Outcome::BadText(place),
+    let s = match judge(text, &mut table) {
+        Judgement::Good(s) => s,
+        Judgement::Fault(place) => return Outcome::BadText(place),
     };
     if LONGEST_TEXT < text.len() {
         return Outcome::BadText(LONGEST_TEXT);

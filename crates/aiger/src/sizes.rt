@@ -25,7 +25,7 @@ pub(crate) enum Kind {
     Gate,
 }
 
-pub(crate) fn number_of(s: Sizes, kind: Kind) -> u32
+pub(crate) fn count(s: Sizes, kind: Kind) -> u32
     ensures { result ≡ count_of kind (sizes_of s) }
 {
     match kind {

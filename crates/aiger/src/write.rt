@@ -10,7 +10,7 @@ ghost use Rattle.aiger.specs.Writes.{line_of, Lays};
 use crate::Outcome;
 use crate::check::{check, place, sizes};
 use crate::due::{NEWLINE, SPACE};
-use crate::sizes::{Kind, Sizes, literal, number_of, width};
+use crate::sizes::{Kind, Sizes, count, literal, width};
 use problem::parts::PartAnswer;
 use problem::read::word_at;
 use text::put::{put_bytes, put_ended};
@@ -79,7 +79,7 @@ fn lines(words: &[u32], s: Sizes, kind: Kind, at: usize, out: &mut [u8]) -> usiz
     requires { Fitting (sizes_of s) }
     ensures { Lays (each (numbers 0 (count_of kind (sizes_of s))) (line_of kind (sizes_of s) words.now)) at out.old result out.new }
 {
-    let n = number_of(s, kind);
+    let n = count(s, kind);
     let mut next = at;
     let mut i: u32 = 0;
     while i < n {

@@ -2,7 +2,6 @@
 use mathlib.Core.Path.{◌≡◌, refl, sym, ◌∙◌, ap}
 use mathlib.Core.Bool.{Bool, true, false, not, cond}
 use mathlib.Core.List.{List, [], ◌∷◌, ◌++◌}
-use mathlib.Core.Logic.{◌↔◌, ◌⊎◌, inl, inr}
 use Prim.Native.Nat.{ℕ, suc}
 use borrow.Author.Tests.{eqb-false, not-true}
 use lib.Dec.{eqb}
@@ -59,19 +58,6 @@ number_after k cs after o e = sym (number_of (first_failing_passed cs after (pas
 pub after_by_number : (k : ℕ) (cs : List Check) (after : Answer) {p : ℕ} → all_of (other_than k) cs ≡ true
     → first_failing cs after ≡ answer k p → after ≡ answer k p
 after_by_number k cs after o e = sym (first_failing_passed cs after (passed_by_number k cs after o (number_of e))) ∙ e
-
--- So it comes past checks of other numbers exactly where they pass and what comes after them gives it.
-pub past_checks : (x : Answer) (cs : List Check) (after : Answer) → all_of (other_than x.number) cs ≡ true
-    → (first_failing cs after ≡ x) ↔ ((all_of passing cs ≡ true) × (after ≡ x))
-past_checks x cs after o = (
-  λ e. let pass = passed_by_number x.number cs after o (number_of e) in (pass, sym (first_failing_passed cs after pass) ∙ e),
-  λ h. first_failing_passed cs after h.0 ∙ h.1,
-)
-
--- Either a check passes, and the answer is that of what comes after it, or it is its refusal.
-pub one_check : {x : Answer} (b : Bool) (after refusal : Answer) → cond b after refusal ≡ x → ((b ≡ true) × (after ≡ x)) ⊎ ((b ≡ false) × (refusal ≡ x))
-one_check true after refusal e = inl (refl, e)
-one_check false after refusal e = inr (refl, e)
 
 -- An answer of yes comes from checks that all pass.
 pub all_pass_if_yes : (cs : List Check) (after : Answer) → all_of refusing cs ≡ true

@@ -18,10 +18,10 @@ use Rattle.meaning.specs.Cases.{t_words}
 use Rattle.meaning.specs.Calls.{judge_refutation, room_after_judging, numbers_area_after, clauses_area_after}
 use Rattle.pairing.proofs.AtOrBelow.{problem_refuted}
 use Rattle.problem.specs.declared.Refusal.TheVariants.{BadVersion}
-use Rattle.checker.specs.declared.ProblemRefutationAnswer.{ProblemRefutationAnswer}
-use Rattle.checker.specs.declared.ProblemRefutationAnswer.TheVariants.{Yes, Problem, RoomTooSmall, BadRefutation, AreaTooSmall, StepRefused}
-use Rattle.checker.specs.Refutation.{problem_refutation_answer, JudgedAs}
-use Rattle.checker.proofs.RefutationUnique.{problem_refutation_unique}
+use Rattle.checker.specs.declared.Refuted.{Refuted}
+use Rattle.checker.specs.declared.Refuted.TheVariants.{Yes, Problem, RoomTooSmall, BadRefutation, AreaTooSmall, StepRefused}
+use Rattle.checker.specs.Refutation.{refuted_answer, JudgedAs}
+use Rattle.checker.proofs.RefutedUnique.{refuted_unique}
 
 -- ════════ What it is to break the promise ════════
 
@@ -33,26 +33,26 @@ pub record Input : Type 0 where
   pub numbers : List ℕ
   pub clauses : List ℕ
 
-abbrev pub Meets : Input → ProblemRefutationAnswer → List ℤ → List ℕ → List ℕ → Type 0
+abbrev pub Meets : Input → Refuted → List ℤ → List ℕ → List ℕ → Type 0
 Meets x = JudgedAs x.version x.words x.refutation x.room x.numbers x.clauses
 
 -- This answer, with these buffers after it, does not meet the promise for the input.
-abbrev pub Breaks : Input → ProblemRefutationAnswer → List ℤ → List ℕ → List ℕ → Type 0
+abbrev pub Breaks : Input → Refuted → List ℤ → List ℕ → List ℕ → Type 0
 Breaks x r room' numbers' clauses' = ¬ (Meets x r room' numbers' clauses')
 
 -- Of an answer and buffers that meet the promise each is the only one.
-module _ {x : Input} {r s : ProblemRefutationAnswer} {room₁ room₂ : List ℤ} {numbers₁ clauses₁ numbers₂ clauses₂ : List ℕ} (m : Meets x r room₁ numbers₁ clauses₁) where
+module _ {x : Input} {r s : Refuted} {room₁ room₂ : List ℤ} {numbers₁ clauses₁ numbers₂ clauses₂ : List ℕ} (m : Meets x r room₁ numbers₁ clauses₁) where
   pub other_answer_breaks : ¬ (s ≡ r) → Breaks x s room₂ numbers₂ clauses₂
-  other_answer_breaks h j = h (problem_refutation_unique j m).0
+  other_answer_breaks h j = h (refuted_unique j m).0
 
   pub other_room_breaks : ¬ (room₂ ≡ room₁) → Breaks x s room₂ numbers₂ clauses₂
-  other_room_breaks h j = h (problem_refutation_unique j m).1
+  other_room_breaks h j = h (refuted_unique j m).1
 
   pub other_numbers_breaks : ¬ (numbers₂ ≡ numbers₁) → Breaks x s room₂ numbers₂ clauses₂
-  other_numbers_breaks h j = h (problem_refutation_unique j m).2
+  other_numbers_breaks h j = h (refuted_unique j m).2
 
   pub other_clauses_breaks : ¬ (clauses₂ ≡ clauses₁) → Breaks x s room₂ numbers₂ clauses₂
-  other_clauses_breaks h j = h (problem_refutation_unique j m).3
+  other_clauses_breaks h j = h (refuted_unique j m).3
 
 -- ════════ Inputs ════════
 
@@ -112,9 +112,9 @@ unfoldable laid_down : Input → Answer
 unfolding header_words problem_by problem cnf cnf_words variables inputs_limit latches_limit gates_limit nodes_limit bound_limit constraints_limit judge_refutation refutation_checks area_checks step_accepted
 laid_down x = judge_refutation x.version x.words x.refutation (length x.room) (length x.numbers) (length x.clauses)
 
-module _ (x : Input) (r : ProblemRefutationAnswer) (e : problem_refutation_answer r ≡ laid_down x) where
-  meets : Meets x r (room_after_judging (problem_refutation_answer r) x.version x.words x.room) (numbers_area_after (problem_refutation_answer r) x.version x.words x.numbers)
-      (clauses_area_after (problem_refutation_answer r) x.version x.words x.refutation x.clauses)
+module _ (x : Input) (r : Refuted) (e : refuted_answer r ≡ laid_down x) where
+  meets : Meets x r (room_after_judging (refuted_answer r) x.version x.words x.room) (numbers_area_after (refuted_answer r) x.version x.words x.numbers)
+      (clauses_area_after (refuted_answer r) x.version x.words x.refutation x.clauses)
   unfolding laid_down
   meets = record {
     answered = e;
@@ -122,7 +122,7 @@ module _ (x : Input) (r : ProblemRefutationAnswer) (e : problem_refutation_answe
     numbers_left = refl;
     clauses_left = refl;
     excludes = λ yes. problem_refuted x.version x.words x.refutation (length x.room) (length x.numbers) (length x.clauses)
-        (sym e ∙ ap problem_refutation_answer yes);
+        (sym e ∙ ap refuted_answer yes);
   }
 
 pub yes_meets : Meets T Yes t_cnf (replicate 7 0) (replicate 13 0)
@@ -159,7 +159,7 @@ other_version_meets = meets t_unknown (Problem BadVersion) refl
 
 -- ════════ Answers ════════
 
-module _ (r : ProblemRefutationAnswer) (room' : List ℤ) (numbers' clauses' : List ℕ) where
+module _ (r : Refuted) (room' : List ℤ) (numbers' clauses' : List ℕ) where
   pub refuses_all_breaks : ¬ (r ≡ Yes) → Breaks T r room' numbers' clauses'
   refuses_all_breaks = other_answer_breaks yes_meets
 
@@ -199,7 +199,7 @@ module _ (r : ProblemRefutationAnswer) (room' : List ℤ) (numbers' clauses' : L
 first_word : List ℤ → ℕ
 first_word ws = variable_of (get_or ws 0 (pos 0))
 
-module _ (r : ProblemRefutationAnswer) (numbers' clauses' : List ℕ) where
+module _ (r : Refuted) (numbers' clauses' : List ℕ) where
   pub unwritten_at_refused_step_breaks : Breaks t_other r t_other.room numbers' clauses'
   unfolding first_word
   unwritten_at_refused_step_breaks = other_room_breaks refused_step_meets (λ e. let z : ◌≡◌ {A = ℕ} 9 1 = ap first_word e in omega arith)
@@ -218,12 +218,12 @@ module _ (r : ProblemRefutationAnswer) (numbers' clauses' : List ℕ) where
   numbers_one_word_short_breaks = other_room_breaks few_numbers_meets (λ e. let z : ◌≡◌ {A = ℕ} 1 9 = ap first_word e in omega arith)
 
 -- Each area is left as the other should be.
-pub areas_exchanged_breaks : (r : ProblemRefutationAnswer) (room' : List ℤ) → Breaks t_even r room' (replicate 13 0) (written (replicate 7 0) (replicate 13 9))
+pub areas_exchanged_breaks : (r : Refuted) (room' : List ℤ) → Breaks t_even r room' (replicate 13 0) (written (replicate 7 0) (replicate 13 9))
 areas_exchanged_breaks r room' =
     other_numbers_breaks even_areas_meet (λ e. let z : ◌≡◌ {A = ℕ} 0 9 = ap (λ (ns : List ℕ). get_or ns 7 0) e in omega arith)
 
 -- A work word that is not 0, at any place, after yes and after 13.
-module _ (r : ProblemRefutationAnswer) (room' : List ℤ) (numbers' clauses' : List ℕ) where
+module _ (r : Refuted) (room' : List ℤ) (numbers' clauses' : List ℕ) where
   pub number_left_breaks : ¬ (numbers' ≡ replicate 7 0) → Breaks T r room' numbers' clauses'
   number_left_breaks = other_numbers_breaks yes_meets
 

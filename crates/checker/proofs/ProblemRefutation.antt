@@ -22,7 +22,7 @@ use Rattle.clauses.proofs.Judges.{steps_judged, cnf_judged, clauses_judged}
 use Rattle.clauses.proofs.ReadBack.{words_ended}
 use Rattle.refutation.specs.declared.RefutationAnswer.{RefutationAnswer}
 use Rattle.refutation.specs.declared.RefutationAnswer.TheVariants as cnf-answers
-use Rattle.refutation.specs.Promise.{refutation_answer, Judged}
+use Rattle.refutation.specs.Promise.{answer_of, Judged}
 use Rattle.meaning.specs.Problem.{Problem, problem}
 use Rattle.meaning.specs.Proper.{Proper}
 use Rattle.meaning.specs.Cnf.{cnf, cnf_words, variables}
@@ -41,9 +41,9 @@ use Rattle.counts.specs.declared.Counts.{Counts}
 use Rattle.checker.specs.declared.prepare.Prepared.{Prepared}
 use Rattle.checker.specs.declared.prepare.Prepared.TheVariants as prepared
 use Rattle.checker.specs.Preparing.{prepared_then, PreparedAs}
-use Rattle.checker.specs.declared.ProblemRefutationAnswer.{ProblemRefutationAnswer}
-use Rattle.checker.specs.declared.ProblemRefutationAnswer.TheVariants as answers
-use Rattle.checker.specs.Refutation.{problem_refutation_answer, answer_for_problem, CnfHeld, JudgedFor, JudgedAs}
+use Rattle.checker.specs.declared.Refuted.{Refuted}
+use Rattle.checker.specs.declared.Refuted.TheVariants as answers
+use Rattle.checker.specs.Refutation.{refuted_answer, refuted_of, CnfHeld, JudgedFor, JudgedAs}
 
 -- ════════ The words of a CNF pass 16 ════════
 
@@ -92,7 +92,7 @@ clauses_not_16 v cs ws m n e =
 -- ════════ The CNF in the room ════════
 
 -- A judgement that is no 16 has the answer for the problem.
-same_answer : (a : RefutationAnswer) → ((refutation_answer a).number ≡ 16 → ⊥) → problem_refutation_answer (answer_for_problem a) ≡ refutation_answer a
+same_answer : (a : RefutationAnswer) → ((answer_of a).number ≡ 16 → ⊥) → refuted_answer (refuted_of a) ≡ answer_of a
 same_answer cnf-answers.Yes e = refl
 same_answer (cnf-answers.BadCnf i) e = absurd (e refl)
 same_answer (cnf-answers.BadRefutation i) e = refl
@@ -109,7 +109,7 @@ module _ {p : Problem} {n : Counts} {room : List ℤ} (c : CnfHeld p n room) whe
 
   pub judged_for : {refutation : List ℤ} {numbers clauses : List ℕ} {a : RefutationAnswer} {numbers' clauses' : List ℕ}
       → Judged n.variables (take n.words room) refutation numbers clauses a numbers' clauses'
-      → JudgedFor p refutation numbers clauses (answer_for_problem a) numbers' clauses'
+      → JudgedFor p refutation numbers clauses (refuted_of a) numbers' clauses'
   judged_for {refutation} {numbers} {clauses} {a} {numbers'} {clauses'} j =
       let here : Judged (variables p) (cnf_words p) refutation numbers clauses a numbers' clauses' = rw (c.held, variables_are) at j in
       let is = here.answered ∙ judged_as_clauses p c.proper refutation (length numbers) (length clauses) in
@@ -143,15 +143,15 @@ module _ (version : ℕ) (ws : List ℕ) (refutation room : List ℤ) (numbers c
   answer_is a = a.answered steps_answer ∙ sym (refutation_by_steps version ws refutation (length room) (length numbers) (length clauses))
 
   -- A refusal before the CNF is written changes nothing.
-  nothing_changed : (r : ProblemRefutationAnswer) → problem_refutation_answer r ≡ judge_refutation version ws refutation (length room) (length numbers) (length clauses)
-      → judged (problem_refutation_answer r) ≡ false → JudgedAs version ws refutation room numbers clauses r room numbers clauses
+  nothing_changed : (r : Refuted) → refuted_answer r ≡ judge_refutation version ws refutation (length room) (length numbers) (length clauses)
+      → judged (refuted_answer r) ≡ false → JudgedAs version ws refutation room numbers clauses r room numbers clauses
   unfolding room_after_judging numbers_area_after clauses_area_after area_after
   nothing_changed r is unchanged = record {
     answered = is;
     room_left = rw unchanged;
     numbers_left = rw unchanged;
     clauses_left = rw unchanged;
-    excludes = λ yes. problem_refuted version ws refutation (length room) (length numbers) (length clauses) (sym is ∙ ap problem_refutation_answer yes);
+    excludes = λ yes. problem_refuted version ws refutation (length room) (length numbers) (length clauses) (sym is ∙ ap refuted_answer yes);
   }
 
   pub problem_refused : {f : Refusal} {room' : List ℤ} → Prepares (prepared.Problem f) room' → JudgedAs version ws refutation room numbers clauses (answers.Problem f) room' numbers clauses
@@ -203,19 +203,19 @@ module _ (version : ℕ) (ws : List ℕ) (refutation room : List ℤ) (numbers c
       held = rw (a.room_after, words_are) (take-append_seam (cnf_words (problem version ws)) _);
     }
 
-    pub steps_answered : {r : ProblemRefutationAnswer} {numbers' clauses' : List ℕ} → JudgedFor (problem version ws) refutation numbers clauses r numbers' clauses'
+    pub steps_answered : {r : Refuted} {numbers' clauses' : List ℕ} → JudgedFor (problem version ws) refutation numbers clauses r numbers' clauses'
         → JudgedAs version ws refutation room numbers clauses r room' numbers' clauses'
     unfolding room_after_judging numbers_area_after clauses_area_after
     steps_answered {r} j =
-        let by_steps : problem_refutation_answer r ≡ steps_answer =
+        let by_steps : refuted_answer r ≡ steps_answer =
         j.answered ∙ clauses_judged (variables (problem version ws)) (cnf (problem version ws)) refutation (length numbers) (length clauses)
         ∙ first_failing_passed words_checks _ all_pass.1.0 ∙ first_failing_passed areas_checks _ all_pass.1.1.0 in
         let is = by_steps ∙ answer_is a in
-        let yes : judged (problem_refutation_answer r) ≡ true = rw by_steps (steps_judged (cnf (problem version ws)) (steps_of refutation)) in
+        let yes : judged (refuted_answer r) ≡ true = rw by_steps (steps_judged (cnf (problem version ws)) (steps_of refutation)) in
         record {
           answered = is;
           room_left = a.room_after ∙ rw yes;
           numbers_left = j.numbers_left;
           clauses_left = j.clauses_left;
-          excludes = λ r-yes. problem_refuted version ws refutation (length room) (length numbers) (length clauses) (sym is ∙ ap problem_refutation_answer r-yes);
+          excludes = λ r-yes. problem_refuted version ws refutation (length room) (length numbers) (length clauses) (sym is ∙ ap refuted_answer r-yes);
         }

@@ -1,25 +1,25 @@
 // Judges a refutation of a problem's CNF, which is written into a lent room.
 ghost use Rattle.std.specs.Prelude.{◌≡◌};
 ghost use Rattle.meaning.specs.Problem.{Problem};
-ghost use Rattle.checker.specs.Refutation.{answer_for_problem, CnfHeld, CnfIn, JudgedFor, JudgedAs};
+ghost use Rattle.checker.specs.Refutation.{refuted_of, CnfHeld, CnfIn, JudgedFor, JudgedAs};
 
-use crate::ProblemRefutationAnswer;
+use crate::Refuted;
 use crate::prepare::{Prepared, prepare};
 use counts::Counts;
 use refutation::RefutationAnswer;
 use refutation::judge::judge;
 
 // A judgement of the CNF as an answer for its problem. A problem's CNF is never answered with 16.
-fn answer_for_problem(j: RefutationAnswer) -> ProblemRefutationAnswer
-    ensures { result ≡ answer_for_problem j }
+fn refuted(j: RefutationAnswer) -> Refuted
+    ensures { result ≡ refuted_of j }
 {
     match j {
-        RefutationAnswer::Yes => ProblemRefutationAnswer::Yes,
-        RefutationAnswer::BadCnf(i) => ProblemRefutationAnswer::BadRefutation(i),
-        RefutationAnswer::BadRefutation(i) => ProblemRefutationAnswer::BadRefutation(i),
-        RefutationAnswer::AreaTooSmall(n) => ProblemRefutationAnswer::AreaTooSmall(n),
-        RefutationAnswer::StepRefused(i) => ProblemRefutationAnswer::StepRefused(i),
-        RefutationAnswer::NotClosed(n) => ProblemRefutationAnswer::NotClosed(n),
+        RefutationAnswer::Yes => Refuted::Yes,
+        RefutationAnswer::BadCnf(i) => Refuted::BadRefutation(i),
+        RefutationAnswer::BadRefutation(i) => Refuted::BadRefutation(i),
+        RefutationAnswer::AreaTooSmall(n) => Refuted::AreaTooSmall(n),
+        RefutationAnswer::StepRefused(i) => Refuted::StepRefused(i),
+        RefutationAnswer::NotClosed(n) => Refuted::NotClosed(n),
     }
 }
 
@@ -30,12 +30,12 @@ fn judge_written<'a>(
     room: &'a [i32],
     by_numbers: &mut [u64],
     by_clauses: &mut [u64],
-) -> ProblemRefutationAnswer
+) -> Refuted
     requires { CnfIn n room.now }
     ensures { (p : Problem) → CnfHeld p n room.now → JudgedFor p refutation.now by_numbers.old by_clauses.old result by_numbers.new by_clauses.new }
 {
     let cnf = &room[..n.words];
-    answer_for_problem(judge(n.variables as u32, cnf, refutation, by_numbers, by_clauses))
+    refuted(judge(n.variables as u32, cnf, refutation, by_numbers, by_clauses))
 }
 
 // 15, 1 to 6, 11 to 14 or yes, for any words and whatever the buffers hold.
@@ -46,7 +46,7 @@ pub fn judge_refutation(
     room: &mut [i32],
     by_numbers: &mut [u64],
     by_clauses: &mut [u64],
-) -> ProblemRefutationAnswer
+) -> Refuted
     ensures { JudgedAs version words.now refutation.now room.old by_numbers.old by_clauses.old result room.new by_numbers.new by_clauses.new }
 {
     let prepared = prepare(
@@ -59,9 +59,9 @@ pub fn judge_refutation(
     );
     match prepared {
         Prepared::Written(n) => judge_written(n, refutation, room, by_numbers, by_clauses),
-        Prepared::Problem(f) => ProblemRefutationAnswer::Problem(f),
-        Prepared::RoomTooSmall(n) => ProblemRefutationAnswer::RoomTooSmall(n),
-        Prepared::BadRefutation(i) => ProblemRefutationAnswer::BadRefutation(i),
-        Prepared::AreaTooSmall(n) => ProblemRefutationAnswer::AreaTooSmall(n),
+        Prepared::Problem(f) => Refuted::Problem(f),
+        Prepared::RoomTooSmall(n) => Refuted::RoomTooSmall(n),
+        Prepared::BadRefutation(i) => Refuted::BadRefutation(i),
+        Prepared::AreaTooSmall(n) => Refuted::AreaTooSmall(n),
     }
 }

@@ -7,7 +7,7 @@ use problem::Refusal;
 
 // Document 01's answers to a refutation of a problem's CNF; `answer` gives the number and the place of each.
 #[derive(Drop)]
-pub enum ProblemRefutationAnswer {
+pub enum Refuted {
     Yes,
     Problem(Refusal),
     RoomTooSmall(usize),

@@ -1,22 +1,24 @@
 -- Steps that are right one after another; those that end in the empty clause are a refutation. Assumes nothing.
 use mathlib.Core.Path.{◌≡◌, refl, ◌∙◌}
-use mathlib.Core.Bool.{Bool, true, ◌&&◌}
-use mathlib.Core.List.{List, [], ◌∷◌, ◌++◌}
-use Prim.Native.Nat.{ℕ, zero, suc, ◌+◌, ◌≤◌, ◌<◌}
+use mathlib.Core.Bool.{Bool, true, ◌&&◌, false≢true}
+use mathlib.Core.List.{List, [], ◌∷◌, ◌++◌, map}
+use Prim.Native.Nat.{ℕ, zero, suc, ◌≤◌, ◌<◌}
 use native.Mathlib.Numerals.{add-one}
-use native.Mathlib.Nat.{le_refl, le_trans, lt_of_lt_of_le, le_of_suc-le-suc, not-suc-le-zero}
+use native.Mathlib.Nat.{le_refl, le_trans, lt_of_lt_of_le}
 use native.Mathlib.Omega.{arith}
-use borrow.Author.Tests.{leb-true, lt-ltb}
-use lib.Dec.{leb, ltb}
+use lib.IntN.{ℤ, pos, negsuc}
+use lib.Dec.{leb, leb-zero, leb-suc-suc}
 use lib.ListN.{length, get_or, length-append, get_or-append}
 use Rattle.answers.specs.Lists.{all_of}
-use Rattle.answers.specs.Answers.{Answer, first_failing}
-use Rattle.clauses.specs.Clauses.{Clause, literal_within}
+use Rattle.answers.specs.Answers.{Answer, Check, first_failing, granted}
+use Rattle.clauses.specs.Clauses.{Clause, variable_of, literal_within}
+use Rattle.clauses.specs.CnfWords.{ended_by_0}
 use Rattle.clauses.specs.Refutations.{Step, step, words_of_steps, step_accepted, clause_numbered, with_step, step_checks, last_is_empty, last_is_empty_after, judge_steps}
-use Rattle.clauses.specs.RightSteps.{StepRight}
 use Rattle.clauses.specs.Refutable.{Refutation}
 use Rattle.answers.proofs.Tests.{both_true, first_true, second_true, all_of_weaker}
-use Rattle.clauses.proofs.StepsRead.{steps_read, right_steps_back, right_steps_right}
+use Rattle.clauses.proofs.ReadBack.{not_0, StepsNoZeros, step_first, steps_back, steps_whole, within_not_0}
+use Rattle.answers.proofs.Answers.{first_failing_append, first_failing_passed}
+use Rattle.clauses.proofs.WordByWord.{Part, literals, hints, word_checks, words_right, words_right_is, whole_is, word_by_word}
 
 -- ════════ Clauses after steps ════════
 
@@ -95,24 +97,62 @@ module _ (variables : ℕ) (after : Answer) where
 -- ════════ The words of right steps are right ════════
 
 module _ (variables : ℕ) where
-  first_right : (cs : List Clause) (s : Step) → RightStep variables cs s → StepRight variables (length cs + 0 + 1) s
-  first_right cs s r = record {
-    literals = r.within;
-    hints = all_of_weaker (names_one_of (length cs)) (λ h. leb 1 h && ltb h (length cs + 0 + 1)) below s.hints r.earlier;
-  }
-    where
-      below : (h : ℕ) → names_one_of (length cs) h ≡ true → leb 1 h && ltb h (length cs + 0 + 1) ≡ true
-      below h e =
-          let l = leb-true h (length cs) (second_true (leb 1 h) (leb h (length cs)) e) in
-          both_true (first_true (leb 1 h) (leb h (length cs)) e) (lt-ltb h (length cs + 0 + 1) (omega arith))
+  word_checks_pass : (p : Part) (own i : ℕ) (ws : List ℤ) (rest : List Check) (after : Answer) → words_right variables p own ws ≡ true
+      → first_failing (word_checks variables p own i ws ++ rest) after ≡ first_failing rest after
+  word_checks_pass p own i ws rest after e =
+      first_failing_append (word_checks variables p own i ws) rest after
+      ∙ first_failing_passed (word_checks variables p own i ws) (first_failing rest after) (words_right_is variables p own i ws ∙ e)
 
-  each_right : (cs : List Clause) (ss : List Step) → RightSteps variables cs ss
-      → (i : ℕ) → i < length ss → StepRight variables (length cs + i + 1) (get_or ss i (step [] []))
-  each_right cs [] r i l = absurd (not-suc-le-zero l)
-  each_right cs (s ∷ ss) r zero l = first_right cs s r.0
-  each_right cs (s ∷ ss) r (suc i) l =
-      let number : length (with_step cs s) + i + 1 ≡ length cs + suc i + 1 = rw length_after (omega arith) in
-      rw number at (each_right (with_step cs s) ss r.1 i (le_of_suc-le-suc l))
+  small_literal : (w : ℤ) (c : Clause) → all_of (literal_within variables) (w ∷ c) ≡ true → leb (variable_of w) variables ≡ true
+  small_literal w c e =
+      second_true (leb 1 (variable_of w)) (leb (variable_of w) variables)
+      (first_true (literal_within variables w) (all_of (literal_within variables) c) e)
+
+  small_rest : (w : ℤ) (c : Clause) → all_of (literal_within variables) (w ∷ c) ≡ true → all_of (literal_within variables) c ≡ true
+  small_rest w c = second_true (literal_within variables w) (all_of (literal_within variables) c)
+
+  literals_right : (own : ℕ) (c : Clause) (ws : List ℤ) → all_of (literal_within variables) c ≡ true
+      → words_right variables literals own (ended_by_0 c ++ ws) ≡ words_right variables hints own ws
+  literals_right own [] ws e = rw leb-zero
+  literals_right own (pos zero ∷ c) ws e = absurd (false≢true e)
+  literals_right own (pos (suc n) ∷ c) ws e =
+      rw (small_literal (pos (suc n)) c e) (literals_right own c ws (small_rest (pos (suc n)) c e))
+  literals_right own (negsuc n ∷ c) ws e =
+      rw (small_literal (negsuc n) c e) (literals_right own c ws (small_rest (negsuc n) c e))
+
+  hints_right : (n : ℕ) (hs : List ℕ) (ws : List ℤ) → all_of (names_one_of n) hs ≡ true
+      → words_right variables hints (suc n) (ended_by_0 (map pos hs) ++ ws) ≡ words_right variables literals (suc (suc n)) ws
+  hints_right n [] ws e = refl
+  hints_right n (zero ∷ hs) ws e = absurd (false≢true e)
+  hints_right n (suc h ∷ hs) ws e =
+      rw (
+        leb-suc-suc (suc h) n,
+        second_true (leb 1 (suc h)) (leb (suc h) n) (first_true (names_one_of n (suc h)) (all_of (names_one_of n) hs) e),
+      )
+      (hints_right n hs ws (second_true (names_one_of n (suc h)) (all_of (names_one_of n) hs) e))
+
+  steps_right : (cs : List Clause) (ss : List Step) → RightSteps variables cs ss
+      → words_right variables literals (suc (length cs)) (words_of_steps ss) ≡ true
+  steps_right cs [] r = refl
+  steps_right cs (s ∷ ss) r =
+      rw (
+        step_first s (words_of_steps ss),
+        literals_right (suc (length cs)) s.clause (ended_by_0 (map pos s.hints) ++ words_of_steps ss) r.0.within,
+        hints_right (length cs) s.hints (words_of_steps ss) r.0.earlier,
+        ← length_after cs s,
+      )
+      (steps_right (with_step cs s) ss r.1)
+
+  right_no_zeros : (cs : List Clause) (ss : List Step) → RightSteps variables cs ss → StepsNoZeros ss
+  right_no_zeros cs [] r = refl
+  right_no_zeros cs (s ∷ ss) r = both_true (both_true no_0 at_least_1) (right_no_zeros (with_step cs s) ss r.1)
+    where
+      no_0 : all_of not_0 s.clause ≡ true
+      no_0 = all_of_weaker (literal_within variables) not_0 (within_not_0 variables) s.clause r.0.within
+
+      at_least_1 : all_of (leb 1) s.hints ≡ true
+      at_least_1 =
+          all_of_weaker (names_one_of (length cs)) (leb 1) (λ h. first_true (leb 1 h) (leb h (length cs))) s.hints r.0.earlier
 
   -- ════════ Right steps that end in the empty clause ════════
 
@@ -121,6 +161,9 @@ module _ (variables : ℕ) where
   refutation_by cs ss r e = record {
     steps = ss;
     accepted = step_checks_pass variables _ cs 0 ss r ∙ rw e;
-    read_back = right_steps_back variables (length cs) ss (each_right cs ss r);
-    words_right = (steps_read variables (length cs) (words_of_steps ss)).1 (right_steps_right variables (length cs) ss (each_right cs ss r));
+    read_back = steps_back ss (right_no_zeros cs ss r);
+    words_right =
+        rw (word_by_word)
+        (word_checks_pass literals (suc (length cs)) 0 (words_of_steps ss) _ (granted 0) (steps_right cs ss r)
+        ∙ rw (← whole_is (words_of_steps ss), steps_whole ss (right_no_zeros cs ss r)));
   }

@@ -116,7 +116,7 @@ step_no_zeros s = all_of not_0 s.clause && all_of (leb 1) s.hints
 abbrev pub StepsNoZeros : List Step → Type 0
 StepsNoZeros ss = all_of step_no_zeros ss ≡ true
 
-pub hints_no_zeros : (hs : List ℕ) → all_of (leb 1) hs ≡ true → all_of not_0 (map pos hs) ≡ true
+hints_no_zeros : (hs : List ℕ) → all_of (leb 1) hs ≡ true → all_of not_0 (map pos hs) ≡ true
 hints_no_zeros [] e = refl
 hints_no_zeros (zero ∷ hs) e = absurd (false≢true e)
 hints_no_zeros (suc h ∷ hs) e = hints_no_zeros hs (second_true (leb 1 (suc h)) (all_of (leb 1) hs) e)
@@ -129,7 +129,7 @@ hints_back (h ∷ hs) = ap (λ (ks : List ℕ). h ∷ ks) (hints_back hs)
 pub step_first : (s : Step) (ws : List ℤ) → step_words s ++ ws ≡ ended_by_0 s.clause ++ (ended_by_0 (map pos s.hints) ++ ws)
 step_first s ws = append_assoc (ended_by_0 s.clause) (ended_by_0 (map pos s.hints)) ws
 
-pub part_after_clause : (p : Part) (c : Clause) (ws : List ℤ) → all_of not_0 c ≡ true
+part_after_clause : (p : Part) (c : Clause) (ws : List ℤ) → all_of not_0 c ≡ true
     → part_at_end p (ended_by_0 c ++ ws) ≡ part_at_end (other p) ws
 part_after_clause p [] ws e = refl
 part_after_clause p (pos zero ∷ c) ws e = absurd (false≢true e)

@@ -128,12 +128,12 @@ accepted_refute cs i (s ∷ t ∷ ss) e l a sat =
     (step_keeps cs s (first_true (step_accepted (clause_numbered cs) s) _ e) a sat)
 
 -- Clauses whose refutation is accepted have no assignment that satisfies them.
-pub accepted_steps_refute : (cs : List Clause) (ss : List Step) → judge_steps cs ss ≡ granted 0 → (a : Assignment) → Satisfies a cs → ⊥
-accepted_steps_refute cs ss e = let g = steps_granted cs ss e in accepted_refute cs 0 ss g.0 g.1
+pub refuted : (cs : List Clause) (ss : List Step) → judge_steps cs ss ≡ granted 0 → (a : Assignment) → Satisfies a cs → ⊥
+refuted cs ss e = let g = steps_granted cs ss e in accepted_refute cs 0 ss g.0 g.1
 
 pub refuted_clauses : (variables : ℕ) (cs : List Clause) (ws : List ℤ) (m n : ℕ) → judge_clauses variables cs ws m n ≡ granted 0
     → (a : Assignment) → Satisfies a cs → ⊥
-refuted_clauses variables cs ws m n e = accepted_steps_refute cs (steps_of ws) (clauses_granted variables cs ws m n e)
+refuted_clauses variables cs ws m n e = refuted cs (steps_of ws) (clauses_granted variables cs ws m n e)
 
 pub refuted_cnf : (variables : ℕ) (cnf ws : List ℤ) (m n : ℕ) → judge_cnf variables cnf ws m n ≡ granted 0
     → (a : Assignment) → Satisfies a (clauses_of cnf) → ⊥

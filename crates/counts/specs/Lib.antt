@@ -1,4 +1,3 @@
 -- What counting promises.
 pub mod Promise
-pub mod Countable
 pub mod Weighing

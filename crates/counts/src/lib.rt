@@ -9,8 +9,7 @@ pub struct Counts {
     pub words: usize,
 }
 
-// What is counted in a problem: positions are k + 1, a fixed reset is 0 or 1, and nodes are told by their form: equals are x=a, junctions "and" and "or",
-// unfoldings Until and Release.
+// What is counted in a problem: positions are k + 1, a fixed reset is 0 or 1, and nodes are told by their form: x=a, "and" and "or", Until and Release.
 #[derive(Drop)]
 pub struct Tally {
     pub positions: usize,
@@ -20,6 +19,6 @@ pub struct Tally {
     pub gates: usize,
     pub constraints: usize,
     pub equals: usize,
-    pub junctions: usize,
-    pub unfoldings: usize,
+    pub ors: usize,
+    pub untils: usize,
 }

@@ -2,26 +2,13 @@
 ghost use Rattle.std.specs.Prelude.{◌≡◌, true, ℕ, suc};
 ghost use Rattle.answers.specs.Lists.{sum};
 ghost use Rattle.meaning.proofs.ClosedForms.{variables_of, item_totals};
-ghost use Rattle.counts.specs.Promise.{tally_of, CountedAs};
-ghost use Rattle.counts.specs.Countable.{each_within, sums_within, countable};
+ghost use Rattle.counts.specs.Promise.{tally_of, few, counts_by};
 ghost use Rattle.counts.specs.Weighing.{Light, Weighs};
 
 use crate::{Counts, Tally};
-use answers::limits::{
-    BOUND_LIMIT, CONSTRAINTS_LIMIT, GATES_LIMIT, INPUTS_LIMIT, LATCHES_LIMIT, NODES_LIMIT,
-};
 
-const MOST_POSITIONS: usize = BOUND_LIMIT as usize + 1;
-
-const MOST_INPUTS: usize = INPUTS_LIMIT as usize;
-
-const MOST_LATCHES: usize = LATCHES_LIMIT as usize;
-
-const MOST_GATES: usize = GATES_LIMIT as usize;
-
-const MOST_CONSTRAINTS: usize = CONSTRAINTS_LIMIT as usize;
-
-const MOST_NODES: usize = NODES_LIMIT as usize;
+// No problem within the limits has as many of anything; below it no closed form leaves a word of 64 bits.
+const TOO_MANY: usize = 65536;
 
 // What a clause of one, of two and of three literals weighs, and the clause -E s(0)..s(k).
 #[derive(Drop)]
@@ -32,70 +19,41 @@ struct Weights {
     long: usize,
 }
 
-// Each number by itself is one that a proper problem may have: there is a position, and an atom, since node 0 has no earlier node.
-fn is_each_within(t: Tally) -> bool
-    ensures { result ≡ each_within (tally_of t) }
+// Few enough for the closed forms, and a position at least.
+fn is_few(t: Tally) -> bool
+    ensures { result ≡ few (tally_of t) }
 {
-    let circuit = (1 <= t.positions)
-        & (t.positions <= MOST_POSITIONS)
-        & (t.latches <= MOST_LATCHES)
-        & (t.fixed <= t.latches)
-        & (t.gates <= MOST_GATES)
-        & (t.constraints <= MOST_CONSTRAINTS);
-    circuit
-        & (1 <= t.equals)
-        & (t.equals <= MOST_NODES)
-        & (t.junctions <= MOST_NODES)
-        & (t.unfoldings <= MOST_NODES)
-}
-
-// So are the inputs, which are what W has besides latches and gates, and the nodes together.
-fn are_sums_within(t: Tally) -> bool
-    requires { each_within (tally_of t) ≡ true }
-    ensures { result ≡ sums_within (tally_of t) }
-{
-    let Tally {
-        width,
-        latches,
-        gates,
-        equals,
-        junctions,
-        unfoldings,
-        ..
-    } = t;
-    let own = latches + gates;
-    let nodes = equals + junctions + unfoldings;
-    (own <= width) & (width <= own + MOST_INPUTS) & (nodes <= MOST_NODES)
-}
-
-// So much is counted in some proper problem.
-fn is_countable(t: Tally) -> bool
-    ensures { result ≡ countable (tally_of t) }
-{
-    is_each_within(t) && are_sums_within(t)
+    let sizes = (0 < t.positions)
+        & (t.positions < TOO_MANY)
+        & (t.width < TOO_MANY)
+        & (t.latches < TOO_MANY)
+        & (t.fixed < TOO_MANY)
+        & (t.gates < TOO_MANY)
+        & (t.constraints < TOO_MANY);
+    sizes & (t.equals < TOO_MANY) & (t.ors < TOO_MANY) & (t.untils < TOO_MANY)
 }
 
 // V: 1, then W variables and a selector for each position, then 2k + 3 for each node.
 fn variables_in(t: Tally) -> usize
-    requires { countable (tally_of t) ≡ true }
+    requires { few (tally_of t) ≡ true }
     ensures { result ≡ variables_of (tally_of t) }
 {
     let Tally {
         positions,
         width,
         equals,
-        junctions,
-        unfoldings,
+        ors,
+        untils,
         ..
     } = t;
     let circuit = positions * (width + 1);
-    let nodes = (equals + junctions + unfoldings) * (2 * positions + 1);
+    let nodes = (equals + ors + untils) * (2 * positions + 1);
     1 + circuit + nodes
 }
 
 // Items 1 to 8 in order, the constraints after item 2; item 7 is P and Q at each position, and then E.
 fn total_in(t: Tally, w: Weights) -> usize
-    requires { (countable (tally_of t) ≡ true) × Light w }
+    requires { (few (tally_of t) ≡ true) × Light w }
     ensures { (weight : ℕ → ℕ) → Weighs weight t.positions w → result ≡ sum (item_totals weight (tally_of t)) }
 {
     let Tally {
@@ -105,8 +63,8 @@ fn total_in(t: Tally, w: Weights) -> usize
         gates,
         constraints,
         equals,
-        junctions,
-        unfoldings,
+        ors,
+        untils,
         ..
     } = t;
     let Weights {
@@ -116,27 +74,25 @@ fn total_in(t: Tally, w: Weights) -> usize
         long,
     } = w;
     let equal = 2 * two;
-    let junction = 2 * two + three;
-    let unfolding = two + 3 * three;
+    let or = 2 * two + three;
+    let until = two + 3 * three;
     let selected = 2 * three;
-    let gates_item = positions * (gates * junction);
+    let gates_item = positions * (gates * or);
     let constraints_item = positions * (constraints * one);
     let resets_item = fixed * one;
     let steps_item = (positions - 1) * (latches * equal);
     let closing_item = positions * (latches * selected);
     let selectors_item = positions * (positions - 1) / 2 * two;
-    let values = equals * (equal + equal)
-        + junctions * (junction + equal)
-        + unfoldings * (unfolding + unfolding);
+    let values = equals * (equal + equal) + ors * (or + equal) + untils * (until + until);
     let ends = positions * selected + long;
-    let nodes_item = positions * values + (equals + junctions + unfoldings) * ends;
+    let nodes_item = positions * values + (equals + ors + untils) * ends;
     let circuit = one + gates_item + constraints_item + resets_item + steps_item;
     circuit + closing_item + selectors_item + nodes_item + one
 }
 
 // Each clause is one.
 fn clauses_in(t: Tally) -> usize
-    requires { countable (tally_of t) ≡ true }
+    requires { few (tally_of t) ≡ true }
     ensures { result ≡ sum (item_totals (λ n. 1) (tally_of t)) }
 {
     total_in(
@@ -152,7 +108,7 @@ fn clauses_in(t: Tally) -> usize
 
 // A clause of n literals is n + 1 words.
 fn words_in(t: Tally) -> usize
-    requires { countable (tally_of t) ≡ true }
+    requires { few (tally_of t) ≡ true }
     ensures { result ≡ sum (item_totals suc (tally_of t)) }
 {
     let long = t.positions + 2;
@@ -167,11 +123,11 @@ fn words_in(t: Tally) -> usize
     )
 }
 
-// The numbers of the CNF of every proper problem in which so much is counted; 0s where there is none.
+// The numbers of the CNF of every proper problem in which so much is counted; 0s where too much is, or no position.
 pub fn counts(t: Tally) -> Counts
-    ensures { CountedAs t result }
+    ensures { result ≡ counts_by (tally_of t) }
 {
-    if is_countable(t) {
+    if is_few(t) {
         Counts {
             variables: variables_in(t),
             clauses: clauses_in(t),

@@ -1,21 +1,20 @@
 -- What the promise of each call says of its yes: when it comes, and what it means. Assumes nothing.
 use mathlib.Core.Path.{◌≡◌, refl, sym, ◌∙◌, ap}
 use mathlib.Core.List.{List}
-use mathlib.Core.Bool.{false}
 use mathlib.Core.Logic.{◌↔◌}
-use Prim.Native.Nat.{ℕ, ◌+◌, ◌≤◌, ◌<◌}
+use Prim.Native.Nat.{ℕ, ◌≤◌}
 use lib.IntN.{ℤ}
 use lib.ListN.{length}
 use Rattle.answers.specs.Answers.{granted}
 use Rattle.answers.proofs.Answers.{number_of}
 use Rattle.refutation.specs.declared.RefutationAnswer.{RefutationAnswer}
 use Rattle.refutation.specs.declared.RefutationAnswer.TheVariants.{BadCnf}
-use Rattle.refutation.specs.Promise.{refutation_answer, Judged}
-use Rattle.meaning.specs.Problem.{Problem, outline, problem, latch}
+use Rattle.refutation.specs.Promise.{answer_of, Judged}
+use Rattle.meaning.specs.Problem.{Problem, problem}
 use Rattle.meaning.specs.Proper.{Proper}
-use Rattle.meaning.specs.Runs.{Position, values, EndlessRun}
+use Rattle.meaning.specs.Runs.{Position, EndlessRun}
 use Rattle.meaning.specs.Formulas.{formula, Holds}
-use Rattle.meaning.specs.Bounded.{prefix, lasso, prefix_value}
+use Rattle.meaning.specs.Bounded.{prefix, lasso}
 use Rattle.meaning.specs.Witnesses.{shape, first_latches, inputs_at, lasso_path, Witness}
 use Rattle.meaning.specs.Cnf.{cnf, cnf_words, variables}
 use Rattle.meaning.specs.Calls.{WellFormed, judge_bytes, judge_witness}
@@ -25,7 +24,6 @@ use Rattle.pairing.specs.Excluded.{Excluded}
 use Rattle.pairing.proofs.Witnesses.{accepted_is_witness}
 use Rattle.pairing.proofs.Judged.{judged_is_witness}
 use Rattle.pairing.proofs.Endless.{lasso_true, prefix_true}
-use Rattle.pairing.proofs.EveryTick.{at_every_tick}
 use Rattle.problem.specs.declared.ProblemRecord.{ProblemRecord}
 use Rattle.problem.specs.declared.Checked.{Checked}
 use Rattle.problem.specs.declared.Checked.TheVariants as checks
@@ -35,18 +33,18 @@ use Rattle.witness.specs.declared.WitnessAnswer.{WitnessAnswer}
 use Rattle.witness.specs.declared.WitnessAnswer.TheVariants as judgements
 use Rattle.witness.specs.Promise as witnessing
 use Rattle.witness.proofs.Unique.{judgement_unique}
-use Rattle.checker.specs.declared.ProblemRefutationAnswer.{ProblemRefutationAnswer}
-use Rattle.checker.specs.declared.ProblemRefutationAnswer.TheVariants.{Yes}
-use Rattle.checker.specs.Refutation.{problem_refutation_answer, JudgedAs}
+use Rattle.checker.specs.declared.Refuted.{Refuted}
+use Rattle.checker.specs.declared.Refuted.TheVariants.{Yes}
+use Rattle.checker.specs.Refutation.{refuted_answer, JudgedAs}
 use Rattle.checker.proofs.ProblemRefutation.{judged_as_clauses, clauses_not_16}
 
 -- ════════ The check ════════
 
 module _ (version : ℕ) (ws : List ℕ) where
   pub check_good : {r : Checked} → checking.CheckedAs version ws r → ((g : ProblemRecord) × (r ≡ checks.Good g)) ↔ WellFormed version ws
-  check_good {r} c = (λ e. sym c.answered ∙ ap checking.checked_answer e.1, λ w. good r (c.answered ∙ w))
+  check_good {r} c = (λ e. sym c.answered ∙ ap checking.answer_of e.1, λ w. good r (c.answered ∙ w))
     where
-      good : (r : Checked) → checking.checked_answer r ≡ granted 0 → (g : ProblemRecord) × (r ≡ checks.Good g)
+      good : (r : Checked) → checking.answer_of r ≡ granted 0 → (g : ProblemRecord) × (r ≡ checks.Good g)
       good (checks.Good g) e = (g, refl)
       good (checks.Refused f) e = absurd (refusal_not_yes f (number_of e))
 
@@ -59,17 +57,12 @@ module _ (version : ℕ) (ws : List ℕ) where
     λ w. let found = (check_good c).1 w in let good = rw found.1 at c in (found.0, found.1, good.counted),
   )
 
--- And its outline is that of the version and the words.
-pub record_outlined : {version : ℕ} {ws : List ℕ} {g : ProblemRecord} → checking.CheckedAs version ws (checks.Good g)
-    → checking.outline_of g.outline ≡ outline version ws
-record_outlined c = c.outlined.outline_is
-
 -- ════════ The witness judge ════════
 
-module _ (version : ℕ) (ws bs : List ℕ) {r : WitnessAnswer} (answered : witnessing.witness_answer r ≡ judge_witness version ws bs) where
+module _ (version : ℕ) (ws bs : List ℕ) {r : WitnessAnswer} (answered : witnessing.answer_of r ≡ judge_witness version ws bs) where
   pub accepted_run : (r ≡ judgements.Yes) ↔ (WellFormed version ws × Witness (problem version ws) bs)
   accepted_run = (
-    λ e. (judged_is_witness version ws bs).0 (sym answered ∙ ap witnessing.witness_answer e),
+    λ e. (judged_is_witness version ws bs).0 (sym answered ∙ ap witnessing.answer_of e),
     λ w. judgement_unique version ws bs r judgements.Yes answered (sym ((judged_is_witness version ws bs).1 w)),
   )
 
@@ -89,11 +82,11 @@ module _ (version : ℕ) (ws bs : List ℕ) {r : WitnessAnswer} (answered : witn
 -- ════════ The judge of a problem's refutation ════════
 
 pub accepted_refutation : {version : ℕ} {ws : List ℕ} {refutation room : List ℤ} {numbers clauses : List ℕ}
-    {r : ProblemRefutationAnswer} {room' : List ℤ} {numbers' clauses' : List ℕ}
+    {r : Refuted} {room' : List ℤ} {numbers' clauses' : List ℕ}
     → JudgedAs version ws refutation room numbers clauses r room' numbers' clauses' → r ≡ Yes
     → WellFormed version ws × Excluded (problem version ws)
 accepted_refutation {version} {ws} {refutation} {room} {numbers} {clauses} a e =
-    let yes = sym (a.answered ∙ refutation_by_clauses version ws refutation (length room) (length numbers) (length clauses)) ∙ ap problem_refutation_answer e in
+    let yes = sym (a.answered ∙ refutation_by_clauses version ws refutation (length room) (length numbers) (length clauses)) ∙ ap refuted_answer e in
     (well_formed_if_checked version ws _ (number_of yes), a.excludes e)
 
 -- ════════ 16 never answers for a problem's CNF ════════
@@ -102,15 +95,4 @@ pub never_16 : (p : Problem) → Proper p → {refutation : List ℤ} {numbers c
     → Judged (variables p) (cnf_words p) refutation numbers clauses r numbers' clauses' → (i : ℕ) → r ≡ BadCnf i → ⊥
 never_16 p proper {refutation} {numbers} {clauses} j i e =
     clauses_not_16 (variables p) (cnf p) refutation (length numbers) (length clauses)
-    (number_of (sym (judged_as_clauses p proper refutation (length numbers) (length clauses)) ∙ sym j.answered ∙ ap refutation_answer e))
-
--- ════════ Every latch free ════════
-
--- A yes to a refutation of a problem whose latches are all free says so of every position of its endless runs.
-pub refuted_at_every_tick : {version : ℕ} {ws : List ℕ} {refutation room : List ℤ} {numbers clauses : List ℕ}
-    {r : ProblemRefutationAnswer} {room' : List ℤ} {numbers' clauses' : List ℕ}
-    → JudgedAs version ws refutation room numbers clauses r room' numbers' clauses' → r ≡ Yes
-    → ((i : ℕ) → i < length (problem version ws).latches → (latch (problem version ws) i).reset ≡ 2)
-    → (path : ℕ → Position) → EndlessRun (problem version ws) path → (n : ℕ)
-    → prefix_value (problem version ws).bound (λ i. values (problem version ws) (path (n + i))) (formula (problem version ws)) 0 ≡ false
-refuted_at_every_tick {version} {ws} judged accepted free = at_every_tick (problem version ws) free (accepted_refutation judged accepted).1.at_k
+    (number_of (sym (judged_as_clauses p proper refutation (length numbers) (length clauses)) ∙ sym j.answered ∙ ap answer_of e))

@@ -1,19 +1,6 @@
--- The page to sign, a file for each demand, one for the refusals and one for the requests; the other public functions; and what these are proved by.
+-- The demands on one page, the other public functions, and what they are proved by.
 pub mod CallsMean
-pub mod VersionOneKept
-pub mod PrintedKept
 pub mod Refutable
-pub mod BeforeSteps
-pub mod RoomRefused
 pub mod ByRecord
-pub mod StepsRefused
 pub mod OtherCalls
-pub mod RunRefused
-pub mod LeftBuffers
-pub mod Buffers
-pub mod NoneAtAll
-pub mod Demand1
-pub mod Refusals
-pub mod Demand2
-pub mod Demand3
-pub mod Requests
+pub mod Demands

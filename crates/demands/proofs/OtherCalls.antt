@@ -6,9 +6,6 @@ use lib.{IntN.ℤ}
 use Rattle.answers.specs.Answers.{Check}
 use Rattle.refutation.specs.declared.WordsCounted.{WordsCounted}
 use Rattle.refutation.specs.Promise.{StepsCounted}
-use Rattle.counts.specs.declared.Counts.{Counts}
-use Rattle.counts.specs.declared.Tally.{Tally}
-use Rattle.counts.specs.Promise.{CountedAs}
 use Rattle.problem.specs.declared.Node.{Node}
 use Rattle.problem.specs.declared.parts.PartAnswer.{PartAnswer}
 use Rattle.problem.specs.Promise.{node_read}
@@ -28,10 +25,6 @@ job_unique = Rattle.job_file.proofs.Unique.job_unique
 -- Any text that is printed: of a job, of a CNF, of a refusal.
 pub printed_unique : (text out : List ℕ) {r r' : Printed} {p p' : List ℕ} → Prints text out r p → Prints text out r' p' → (r ≡ r') × (p ≡ p')
 printed_unique = Rattle.job_file.proofs.Unique.printed_unique
-
--- The numbers of a CNF, by what is counted in its problem.
-pub counts_unique : (t : Tally) (r r' : Counts) → CountedAs t r → CountedAs t r' → r ≡ r'
-counts_unique = Rattle.counts.proofs.Unique.counted_unique
 
 -- The readers of a problem's parts promise equations; of one node:
 pub node_unique : (r r' : Node) → node_read r ≡ node_read r' → r ≡ r'

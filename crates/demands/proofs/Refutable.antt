@@ -12,14 +12,14 @@ use Rattle.meaning.specs.Cnf.{cnf, cnf_words, variables}
 use Rattle.meaning.specs.Calls.{WellFormed}
 use Rattle.pairing.specs.Refutable.{AcceptedRefutation}
 use Rattle.pairing.proofs.Refutable.{problem_refutable_words}
-use Rattle.checker.specs.declared.ProblemRefutationAnswer.{ProblemRefutationAnswer}
-use Rattle.checker.specs.declared.ProblemRefutationAnswer.TheVariants.{Yes}
+use Rattle.checker.specs.declared.Refuted.{Refuted}
+use Rattle.checker.specs.declared.Refuted.TheVariants.{Yes}
 use Rattle.checker.specs.Refutation.{JudgedAs}
-use Rattle.checker.proofs.RefutationUnique.{same_answer}
+use Rattle.checker.proofs.RefutedUnique.{same_answer}
 
 -- The answer to words that are accepted.
 pub call_yes : {version : ℕ} {ws : List ℕ} (a : AcceptedRefutation version ws)
-    {room : List ℤ} {numbers clauses : List ℕ} {r : ProblemRefutationAnswer} {room' : List ℤ} {numbers' clauses' : List ℕ}
+    {room : List ℤ} {numbers clauses : List ℕ} {r : Refuted} {room' : List ℤ} {numbers' clauses' : List ℕ}
     → length (cnf_words (problem version ws)) ≤ length room → numbers_area (variables (problem version ws)) ≤ length numbers
     → clauses_area (cnf (problem version ws)) (steps_of a.words) ≤ length clauses
     → JudgedAs version ws a.words room numbers clauses r room' numbers' clauses' → r ≡ Yes
@@ -28,7 +28,7 @@ call_yes a {room} {numbers} {clauses} {r} l p q j =
 
 pub refutable_call : (version : ℕ) (ws : List ℕ) → WellFormed version ws → ((bs : List ℕ) → Witness (problem version ws) bs → ⊥)
     → (a : AcceptedRefutation version ws)
-    × ((room : List ℤ) (numbers clauses : List ℕ) (r : ProblemRefutationAnswer) (room' : List ℤ) (numbers' clauses' : List ℕ)
+    × ((room : List ℤ) (numbers clauses : List ℕ) (r : Refuted) (room' : List ℤ) (numbers' clauses' : List ℕ)
     → length (cnf_words (problem version ws)) ≤ length room → numbers_area (variables (problem version ws)) ≤ length numbers
     → clauses_area (cnf (problem version ws)) (steps_of a.words) ≤ length clauses
     → JudgedAs version ws a.words room numbers clauses r room' numbers' clauses' → r ≡ Yes)

@@ -21,7 +21,7 @@ use Rattle.problem.proofs.LazyCounts.{numbers_of}
 use Rattle.problem.specs.declared.Refusal.TheVariants.{BadVersion, BadLiteral}
 use Rattle.encoder.specs.declared.Encoded.{Encoded}
 use Rattle.encoder.specs.declared.Encoded.TheVariants.{Written, Problem, RoomTooSmall}
-use Rattle.encoder.specs.Promise.{encoded_answer, NumberedBy, EncodedAs}
+use Rattle.encoder.specs.Promise.{answer_of, NumberedBy, EncodedAs}
 use Rattle.encoder.proofs.Unique.{encoded_unique}
 
 -- ════════ What it is to break the promise ════════
@@ -117,8 +117,8 @@ unfoldable pub laid_down : Input → Answer
 unfolding header_words problem_by problem cnf cnf_words inputs_limit latches_limit gates_limit nodes_limit bound_limit constraints_limit write_cnf
 laid_down x = write_cnf x.version x.words (length x.room)
 
-pub meets : (x : Input) (r : Encoded) → encoded_answer r ≡ laid_down x → NumberedBy (problem x.version x.words) r
-    → Meets x r (room_after_writing (encoded_answer r) x.version x.words x.room)
+pub meets : (x : Input) (r : Encoded) → answer_of r ≡ laid_down x → NumberedBy (problem x.version x.words) r
+    → Meets x r (room_after_writing (answer_of r) x.version x.words x.room)
 unfolding laid_down
 meets x r e n = record { answered = e; room_after = refl; numbered = n }
 

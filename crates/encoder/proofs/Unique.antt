@@ -14,7 +14,7 @@ use Rattle.problem.specs.Promise.{refusal_answer}
 use Rattle.problem.proofs.Unique.{refusal_unique, refusal_not_yes}
 use Rattle.encoder.specs.declared.Encoded.{Encoded}
 use Rattle.encoder.specs.declared.Encoded.TheVariants.{Written, Problem, RoomTooSmall}
-use Rattle.encoder.specs.Promise.{encoded_answer, NumberedBy, EncodedAs}
+use Rattle.encoder.specs.Promise.{answer_of, NumberedBy, EncodedAs}
 
 -- No refusal of a problem has the number of a room too small.
 refusal_not_room : (f : Refusal) → (refusal_answer f).number ≡ 6 → ⊥
@@ -25,7 +25,7 @@ refusal_not_room (BadReset i) e = omega arith
 refusal_not_room (BadLiteral i) e = omega arith
 refusal_not_room (BadNode i) e = omega arith
 
-same_outcome : (p : problems.Problem) (r r' : Encoded) → NumberedBy p r → NumberedBy p r' → encoded_answer r ≡ encoded_answer r' → r ≡ r'
+same_outcome : (p : problems.Problem) (r r' : Encoded) → NumberedBy p r → NumberedBy p r' → answer_of r ≡ answer_of r' → r ≡ r'
 same_outcome p (Written n) (Written n') c c' e = ap Written (c ∙ sym c')
 same_outcome p (Written n) (Problem f) c c' e = absurd (refusal_not_yes f (number_of (sym e)))
 same_outcome p (Written n) (RoomTooSmall n') c c' e = absurd (omega (arith, number_of e))

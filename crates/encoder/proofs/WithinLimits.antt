@@ -40,7 +40,7 @@ module _ {s : Outline} {ws : List ℕ} (good : ProperIn s ws) where
   pub nodes_within : s.formula_nodes ≤ nodes_limit
   nodes_within = rw (shows s ws).nodes_are at good.proper.nodes_within
 
-  pub next_within : {i : ℕ} → i < s.latches → (latch (problem_in s ws) i).next_literal ≤ 2 * s.width + 1
+  pub next_within : {i : ℕ} → i < s.latches → (latch (problem_in s ws) i).next ≤ 2 * s.width + 1
   next_within {i} l = rw good.width_is at (good.proper.next_in_range i (rw (shows s ws).latches_are l))
 
   module _ {j : ℕ} (l : j < s.gates) where

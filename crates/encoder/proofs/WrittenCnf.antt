@@ -20,7 +20,7 @@ use Rattle.counts.specs.declared.Counts.{Counts}
 use Rattle.counts.specs.Promise.{counts_of}
 use Rattle.encoder.specs.declared.Encoded.{Encoded}
 use Rattle.encoder.specs.declared.Encoded.TheVariants.{Written}
-use Rattle.encoder.specs.Promise.{EncodedAs, encoded_answer}
+use Rattle.encoder.specs.Promise.{EncodedAs, answer_of}
 use Rattle.encoder.proofs.Unique.{encoded_unique}
 
 module _ (version : ℕ) (ws : List ℕ) (before : List ℤ) where
@@ -48,4 +48,4 @@ module _ (version : ℕ) (ws : List ℕ) (before : List ℤ) where
         (record { answered = sym (granted_if_room w fits); room_after = refl; numbered = refl })
 
     pub written_only : {n : Counts} → r ≡ Written n → WellFormed version ws × (length (cnf_words (problem version ws)) ≤ length before)
-    written_only e = room_if_granted (sym written_as.answered ∙ ap encoded_answer e)
+    written_only e = room_if_granted (sym written_as.answered ∙ ap answer_of e)

@@ -2,7 +2,7 @@
 use Rattle.std.specs.Prelude.{◌≡◌, List, [], ◌∷◌, ◌++◌, ℕ, ◌+◌, ◌-◌, ℤ, length}
 use Rattle.answers.specs.Lists.{numbers, each}
 use Rattle.clauses.specs.Clauses.{Clause, negated}
-use Rattle.meaning.specs.Problem.{Problem, Node, latch, atom_node, both_node, either_node, next_node, until_node, release_node}
+use Rattle.meaning.specs.Problem.{Problem, Node, latch, atom, both, either, next, until, release}
 use Rattle.meaning.specs.Cnf.{equal_form, or_form, and_form, until_form, release_form, positions, selector, literal_at, left_at, latch_at, next_at, latch_numbers, gate_clauses, constraint_unit, reset_unit, closing_clauses, P, p_clauses, q_clauses, e_clauses}
 use Rattle.problem.specs.declared.Outline.{Outline}
 use Rattle.encoder.specs.declared.forms.OpForm.{OpForm}
@@ -41,12 +41,12 @@ selectors_after p l = each (numbers (l + 1) (p.bound - l)) (λ m. excluded_pair 
 
 -- x has the op's form over the children at i; U and R end with y.
 abbrev pub form_clauses : Problem → ℤ → Node → ℕ → ℤ → List Clause
-form_clauses p x (atom_node a) i y = equal_form x (literal_at p i a)
-form_clauses p x (both_node a b) i y = and_form x (P p a i) (P p b i)
-form_clauses p x (either_node a b) i y = or_form x (P p a i) (P p b i)
-form_clauses p x (next_node a) i y = equal_form x (P p a (i + 1))
-form_clauses p x (until_node a b) i y = until_form x (left_at p a i) (P p b i) y
-form_clauses p x (release_node a b) i y = release_form x (left_at p a i) (P p b i) y
+form_clauses p x (atom a) i y = equal_form x (literal_at p i a)
+form_clauses p x (both a b) i y = and_form x (P p a i) (P p b i)
+form_clauses p x (either a b) i y = or_form x (P p a i) (P p b i)
+form_clauses p x (next a) i y = equal_form x (P p a (i + 1))
+form_clauses p x (until a b) i y = until_form x (left_at p a i) (P p b i) y
+form_clauses p x (release a b) i y = release_form x (left_at p a i) (P p b i) y
 
 -- x has a form over literals that are known; Until and Release end with y.
 abbrev pub form_over : OpForm → ℤ → ℤ → List Clause

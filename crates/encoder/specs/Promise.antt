@@ -9,10 +9,10 @@ use Rattle.encoder.specs.declared.Encoded.{Encoded}
 use Rattle.encoder.specs.declared.Encoded.TheVariants.{Written, Problem, RoomTooSmall}
 
 -- Document 01's number and place of each outcome.
-abbrev pub encoded_answer : Encoded → Answer
-encoded_answer (Written n) = granted n.words
-encoded_answer (Problem f) = refusal_answer f
-encoded_answer (RoomTooSmall n) = room_too_small n
+abbrev pub answer_of : Encoded → Answer
+answer_of (Written n) = granted n.words
+answer_of (Problem f) = refusal_answer f
+answer_of (RoomTooSmall n) = room_too_small n
 
 -- Where the CNF is written, its numbers of variables, clauses and words.
 abbrev pub NumberedBy : problems.Problem → Encoded → Type 0
@@ -22,6 +22,6 @@ NumberedBy p (RoomTooSmall n) = Unit
 
 -- Writing: its answer, the whole room after it, and the numbers of what was written.
 pub record EncodedAs (version : ℕ) (ws : List ℕ) (before : List ℤ) (r : Encoded) (after : List ℤ) : Type 0 where
-  pub answered : encoded_answer r ≡ write_cnf version ws (length before)
-  pub room_after : after ≡ room_after_writing (encoded_answer r) version ws before
+  pub answered : answer_of r ≡ write_cnf version ws (length before)
+  pub room_after : after ≡ room_after_writing (answer_of r) version ws before
   pub numbered : NumberedBy (problems.problem version ws) r

@@ -9,7 +9,7 @@ use Rattle.meaning.specs.Cnf.{cnf_words}
 use Rattle.meaning.specs.Calls.{room_checks}
 use Rattle.problem.specs.declared.Outline.{Outline}
 use Rattle.encoder.specs.declared.Encoded.{Encoded}
-use Rattle.encoder.specs.Promise.{encoded_answer, NumberedBy}
+use Rattle.encoder.specs.Promise.{answer_of, NumberedBy}
 use Rattle.encoder.specs.Numbering.{Sized}
 
 -- From `at` on the room holds the words, which it has room for, and else what it held; the answer is the place after the words.
@@ -33,6 +33,6 @@ pub record RoomFor (s : Outline) (at : ℕ) (cs : Problem → List Clause) (room
 
 -- Writing where the problem is good: the answer to the room's length, the room after it, and the numbers of what was written.
 pub record RoomAnswered (p : Problem) (before : List ℤ) (r : Encoded) (after : List ℤ) : Type 0 where
-  pub answered : encoded_answer r ≡ first_failing (room_checks p (length before)) (granted (length (cnf_words p)))
-  pub room_after : after ≡ cond (eqb (encoded_answer r).number 0) (written (cnf_words p) before) before
+  pub answered : answer_of r ≡ first_failing (room_checks p (length before)) (granted (length (cnf_words p)))
+  pub room_after : after ≡ cond (eqb (answer_of r).number 0) (written (cnf_words p) before) before
   pub numbered : NumberedBy p r

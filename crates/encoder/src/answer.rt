@@ -1,12 +1,12 @@
 // Document 01's number and place of each outcome of writing.
 ghost use Rattle.std.specs.Prelude.{◌≡◌};
-ghost use Rattle.encoder.specs.Promise.{encoded_answer};
+ghost use Rattle.encoder.specs.Promise.{answer_of};
 
 use crate::Encoded;
 use problem::answer::{refusal_number, refusal_place};
 
 pub fn number(a: Encoded) -> u32
-    ensures { result ≡ (encoded_answer a).number }
+    ensures { result ≡ (answer_of a).number }
 {
     match a {
         Encoded::Written(_) => 0,
@@ -16,7 +16,7 @@ pub fn number(a: Encoded) -> u32
 }
 
 pub fn place(a: Encoded) -> usize
-    ensures { result ≡ (encoded_answer a).place }
+    ensures { result ≡ (answer_of a).place }
 {
     match a {
         Encoded::Written(n) => n.words,

@@ -122,7 +122,7 @@ module _ (p : Problem) (m : ℕ) where
       reset_of : (i : ℕ) → i < length p.latches → get_or (slots p) i 2 ≡ (latch p i).reset
       reset_of i h =
           get_or-append (resets p) _ 2 i (rw length-map h)
-          ∙ get_or-map (λ (c : Latch). c.reset) p.latches i (record { next_literal = 0; reset = 2 })
+          ∙ get_or-map (λ (c : Latch). c.reset) p.latches i (record { next = 0; reset = 2 })
 
 -- The bytes after the first.
 later_bytes_pass : (p : Problem) (i : ℕ) (xs : List ℕ) → ((j : ℕ) → get_or xs j 0 ≤ 1)
@@ -143,9 +143,9 @@ met_if_accepted : (p : Problem) (bs : List ℕ) → accepted p bs ≡ true → (
 met_if_accepted p bs e t h =
     let parts = sym (by_parts p bs) ∙ e in
     let after-7 = second_true (all_of passing (byte_checks p bs)) _ parts in
-    let after_8 = second_true (all_of passing (reset_checks p bs)) _ after-7 in
-    let after_9 = second_true (all_of passing (loop_checks p bs (shape bs))) _ after_8 in
-    let pass = first_true (all_of passing (position_checks p bs)) _ after_9 in
+    let after-8 = second_true (all_of passing (reset_checks p bs)) _ after-7 in
+    let after-9 = second_true (all_of passing (loop_checks p bs (shape bs))) _ after-8 in
+    let pass = first_true (all_of passing (position_checks p bs)) _ after-9 in
     all_of_numbers (met_at p bs) (p.bound + 1) (sym (positions_passing p bs) ∙ pass) t (omega arith)
 
 module _ (p : Problem) (m : ℕ) where

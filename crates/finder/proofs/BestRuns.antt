@@ -24,7 +24,7 @@ none_of_broken {p} {m} broken limit = record {
 }
 
 -- Of no runs.
-pub best_of_none : (p : Problem) {loop-byte : ℕ} (run : ℕ) → loop-byte ≡ p.bound + 2 → BestOf p 0 (record { loop_byte = loop-byte; run = run })
+pub best_of_none : (p : Problem) {first : ℕ} (run : ℕ) → first ≡ p.bound + 2 → BestOf p 0 (record { first = first; run = run })
 best_of_none p run e = record {
   within = omega arith;
   none_lower = λ m b h l. absurd (omega arith);
@@ -33,8 +33,8 @@ best_of_none p run e = record {
   none_before = λ m h l. absurd (omega arith);
 }
 
-module _ {p : Problem} {n loop-byte run lower : ℕ} (so_far : BestOf p n (record { loop_byte = loop-byte; run = run }))
-    (here : Lowest p (run_bytes p n) loop-byte lower) where
+module _ {p : Problem} {n first run lower : ℕ} (so_far : BestOf p n (record { first = first; run = run }))
+    (here : Lowest p (run_bytes p n) first lower) where
   -- None of them with a first byte that is lower than the lower of the two.
   none_lower_now : (m b : ℕ) → m < n + 1 → b < lower → accepted p (b ∷ run_bytes p m) ≡ false
   none_lower_now m b l q =
@@ -42,7 +42,7 @@ module _ {p : Problem} {n loop-byte run lower : ℕ} (so_far : BestOf p n (recor
       (here.none_lower b q) m l
 
   -- One run more: it is better, ..
-  pub better : lower < loop-byte → {loop-byte' run' : ℕ} → loop-byte' ≡ lower → run' ≡ n → BestOf p (n + 1) (record { loop_byte = loop-byte'; run = run' })
+  pub better : lower < first → {first' run' : ℕ} → first' ≡ lower → run' ≡ n → BestOf p (n + 1) (record { first = first'; run = run' })
   better h e f =
       rw (e, f)
       (record {
@@ -54,7 +54,7 @@ module _ {p : Problem} {n loop-byte run lower : ℕ} (so_far : BestOf p n (recor
       })
 
   -- .. or it is not.
-  pub no_better : loop-byte ≤ lower → {loop-byte' run' : ℕ} → loop-byte' ≡ loop-byte → run' ≡ run → BestOf p (n + 1) (record { loop_byte = loop-byte'; run = run' })
+  pub no_better : first ≤ lower → {first' run' : ℕ} → first' ≡ first → run' ≡ run → BestOf p (n + 1) (record { first = first'; run = run' })
   no_better h e f =
       rw (e, f)
       (record {
@@ -66,14 +66,14 @@ module _ {p : Problem} {n loop-byte run lower : ℕ} (so_far : BestOf p n (recor
       })
 
 -- Where it stops no run is left, or nothing is lower.
-pub best_of_all : {p : Problem} {m n loop-byte run : ℕ} → BestOf p m (record { loop_byte = loop-byte; run = run }) → m ≤ n → ltb m n && ltb 0 loop-byte ≡ false
-    → BestOf p n (record { loop_byte = loop-byte; run = run })
-best_of_all {p} {m} {n} {loop-byte} {run} b h stop = go (eq-or-lt_of_le h)
+pub best_of_all : {p : Problem} {m n first run : ℕ} → BestOf p m (record { first = first; run = run }) → m ≤ n → ltb m n && ltb 0 first ≡ false
+    → BestOf p n (record { first = first; run = run })
+best_of_all {p} {m} {n} {first} {run} b h stop = go (eq-or-lt_of_le h)
   where
-    go : (m ≡ n) ⊎ (m < n) → BestOf p n (record { loop_byte = loop-byte; run = run })
+    go : (m ≡ n) ⊎ (m < n) → BestOf p n (record { first = first; run = run })
     go (inl e) = rw e at b
     go (inr l) =
-        let none : loop-byte ≤ 0 = ltb-false 0 loop-byte (rw (lt-ltb m n l) at stop) in
+        let none : first ≤ 0 = ltb-false 0 first (rw (lt-ltb m n l) at stop) in
         record {
           within = b.within;
           none_lower = λ k c q r. absurd (omega arith);

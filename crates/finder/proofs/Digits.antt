@@ -122,7 +122,7 @@ pub length_resets : (p : Problem) → length (resets p) ≡ length p.latches
 length_resets p = length-map p.latches (λ (c : Latch). c.reset)
 
 pub reset_of : (p : Problem) (i : ℕ) → get_or (resets p) i 2 ≡ (latch p i).reset
-reset_of p i = get_or-map (λ (c : Latch). c.reset) p.latches i (record { next_literal = 0; reset = 2 })
+reset_of p i = get_or-map (λ (c : Latch). c.reset) p.latches i (record { next = 0; reset = 2 })
 
 -- ════════ The bytes of a run ════════
 

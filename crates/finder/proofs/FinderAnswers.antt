@@ -24,7 +24,7 @@ use Rattle.problem.proofs.Unique.{refusal_not_yes}
 use Rattle.problem.proofs.Formed.{well_formed_if_good, refused_whatever}
 use Rattle.finder.specs.declared.Finding.{Finding}
 use Rattle.finder.specs.declared.Finding.TheVariants.{Problem, TooMuchOpen, RoomTooSmall}
-use Rattle.finder.specs.Promise.{finding_answer, FoundIn, FoundAs}
+use Rattle.finder.specs.Promise.{answer_of, FoundIn, FoundAs}
 
 -- ════════ The check ════════
 
@@ -64,7 +64,7 @@ module _ (p : problems.Problem) {before : List ℕ} where
     }
 
     -- The room is as the list of witnesses says: with none it stays.
-    pub searched : n ≤ length before → {r : Finding} {after : List ℕ} → finding_answer r ≡ first_found (witnesses p) → after ≡ with_first (witnesses p) before
+    pub searched : n ≤ length before → {r : Finding} {after : List ℕ} → answer_of r ≡ first_found (witnesses p) → after ≡ with_first (witnesses p) before
         → FoundIn p before r after
     searched fits {r} {after} e room = record {
       answered = rw (le-leb (open_bytes p) search_limit (rw m-is at few), le-leb (witness_length p) (length before) (rw n-is at fits)) e;

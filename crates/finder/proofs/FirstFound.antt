@@ -83,7 +83,7 @@ meets_joined (r ∷ rs) n (b ∷ bs) h =
 module _ (p : Problem) where
   meets_if_accepted : (b : ℕ) (xs : List ℕ) → accepted p (b ∷ xs) ≡ true → meets (slots p) xs ≡ true
   meets_if_accepted b xs e = meets_joined (resets p) (p.inputs * (p.bound + 1)) xs (λ i l.
-      rw (get_or-map (λ (c : Latch). c.reset) p.latches i (record { next_literal = 0; reset = 2 }))
+      rw (get_or-map (λ (c : Latch). c.reset) p.latches i (record { next = 0; reset = 2 }))
       (accepted_meets p b xs e i (rw length-map at l)))
 
   slots_long : length (slots p) ≡ length p.latches + p.inputs * (p.bound + 1)
@@ -129,16 +129,16 @@ module _ {p : Problem} (good : Proper p) where
 
 module _ {p : Problem} (good : Proper p) {best : Best} (of-all : BestOf p (2 ^ open_bytes p) best) where
   -- A first byte that is lower makes no run a witness.
-  none_with : (b : ℕ) → b < best.loop_byte → with_byte p b ≡ []
+  none_with : (b : ℕ) → b < best.first → with_byte p b ≡ []
   none_with b l =
       none_of_each (λ m. one_if p (b ∷ run_bytes p m)) 0 (2 ^ open_bytes p) (λ m q. rw (zero-add, of-all.none_lower m b q l))
 
-  pub best_is_first : best.loop_byte < p.bound + 2 → (rest : List (List ℕ)) × (witnesses p ≡ (best.loop_byte ∷ run_bytes p best.run) ∷ rest)
+  pub best_is_first : best.first < p.bound + 2 → (rest : List (List ℕ)) × (witnesses p ≡ (best.first ∷ run_bytes p best.run) ∷ rest)
   best_is_first found =
-      let one : one_if p (best.loop_byte ∷ run_bytes p best.run) ≡ (best.loop_byte ∷ run_bytes p best.run) ∷ [] = rw (of-all.is_one found) in
-      let run = first_of_each (λ m. one_if p (best.loop_byte ∷ run_bytes p m)) best.run (of-all.run_there found) (λ m l. rw (of-all.none_before m found l)) one in
-      let first = first_of_each (with_byte p) best.loop_byte found none_with run.1 in
+      let one : one_if p (best.first ∷ run_bytes p best.run) ≡ (best.first ∷ run_bytes p best.run) ∷ [] = rw (of-all.is_one found) in
+      let run = first_of_each (λ m. one_if p (best.first ∷ run_bytes p m)) best.run (of-all.run_there found) (λ m l. rw (of-all.none_before m found l)) one in
+      let first = first_of_each (with_byte p) best.first found none_with run.1 in
       (first.0, by_runs good ∙ first.1)
 
-  pub best_is_none : best.loop_byte ≡ p.bound + 2 → witnesses p ≡ []
+  pub best_is_none : best.first ≡ p.bound + 2 → witnesses p ≡ []
   best_is_none e = by_runs good ∙ none_of_each (with_byte p) 0 (p.bound + 2) (λ b l. rw zero-add (none_with b (rw e l)))

@@ -124,7 +124,7 @@ runs_in_order (suc (suc r) ∷ rs) =
 
 -- ════════ The open bytes ════════
 
-free_resets : (ls : List Latch) → ((i : ℕ) → i < length ls → (get_or ls i (record { next_literal = 0; reset = 2 })).reset ≤ 2)
+free_resets : (ls : List Latch) → ((i : ℕ) → i < length ls → (get_or ls i (record { next = 0; reset = 2 })).reset ≤ 2)
     → length (those is_free ls) ≡ free_in (map (λ (c : Latch). c.reset) ls)
 free_resets [] small = refl
 free_resets (c ∷ ls) small = go c.reset (small 0 (suc-le-suc zero-le)) (free_resets ls (λ i l. small (suc i) (suc-le-suc l)))

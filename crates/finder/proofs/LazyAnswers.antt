@@ -218,9 +218,9 @@ sixteen_open_formed = refl
 
 -- Its candidates are too many to be computed, but the first run that meets the resets is a witness as a prefix.
 first_of_all : (p : problems.Problem) → Proper p → accepted p (0 ∷ run_bytes p 0) ≡ true → (rest : List (List ℕ)) × (witnesses p ≡ (0 ∷ run_bytes p 0) ∷ rest)
-first_of_all p proper e = best_is_first proper {best = record { loop_byte = 0; run = 0 }} best (omega arith)
+first_of_all p proper e = best_is_first proper {best = record { first = 0; run = 0 }} best (omega arith)
   where
-    best : BestOf p (2 ^ open_bytes p) (record { loop_byte = 0; run = 0 })
+    best : BestOf p (2 ^ open_bytes p) (record { first = 0; run = 0 })
     best = record {
       within = omega arith;
       none_lower = λ m b l q. absurd (omega arith);

@@ -1,6 +1,6 @@
 -- What the finder's answers mean: when each comes, and what a witness found or none says. Assumes nothing.
 use mathlib.Core.Path.{◌≡◌, refl, sym, ◌∙◌, ap}
-use mathlib.Core.Bool.{true}
+use mathlib.Core.Bool.{Bool, true, false, cond}
 use mathlib.Core.List.{List, [], ◌∷◌}
 use mathlib.Core.Logic.{◌↔◌, ◌⊎◌, inl, inr}
 use Prim.Native.Nat.{ℕ, ◌≤◌, ◌<◌}
@@ -11,23 +11,27 @@ use lib.ListN.{length}
 use Rattle.answers.specs.Lists.{written}
 use Rattle.clauses.specs.Clauses.{Assignment}
 use Rattle.answers.specs.Answers.{Answer, first_failing, granted}
-use Rattle.answers.proofs.Answers.{number_of, place_of, one_check}
+use Rattle.answers.proofs.Answers.{number_of, place_of}
 use Rattle.answers.specs.Limits.{search_limit}
 use Rattle.finder.specs.Calls.{too_much_open, witness_room_too_small, none_exists, open_bytes, finding_checks, first_found, room_after_finding}
 use Rattle.meaning.specs.Problem.{Problem, problem}
 use Rattle.meaning.specs.Witnesses.{witness_length, at_or_before, Witness}
 use Rattle.meaning.specs.Calls.{WellFormed, witnesses}
-use Rattle.meaning.proofs.Check.{problem_checked, check_numbers, Apart, well_formed_by_number, checked_if_well_formed, proper_if_well_formed}
+use Rattle.meaning.proofs.Check.{problem_checked, checked_if_well_formed, well_formed_if_checked, well_formed_if_over, proper_if_well_formed}
 use Rattle.finder.proofs.FindingOrder.{find_witness_is}
 use Rattle.pairing.specs.Excluded.{Excluded}
 use Rattle.pairing.specs.Pairs.{Model}
 use Rattle.pairing.proofs.FirstWitness.{first_witness, none_if_empty, empty_is_unsatisfiable, empty_excludes}
 use Rattle.finder.specs.declared.Finding.{Finding}
 use Rattle.finder.specs.declared.Finding.TheVariants.{Found, TooMuchOpen, RoomTooSmall, NoneExists}
-use Rattle.finder.specs.Promise.{finding_answer, FoundAs, Searched}
+use Rattle.finder.specs.Promise.{answer_of, FoundAs, Searched}
 use Rattle.finder.proofs.Unique.{same_outcome}
 
 -- ════════ 17, 18, and what the list of witnesses says ════════
+
+one_check : {x : Answer} (b : Bool) (after refusal : Answer) → cond b after refusal ≡ x → ((b ≡ true) × (after ≡ x)) ⊎ ((b ≡ false) × (refusal ≡ x))
+one_check true after refusal e = inl (refl, e)
+one_check false after refusal e = inr (refl, e)
 
 module _ (p : Problem) (room : ℕ) (after : Answer) where
   searched_then : Searched p room → first_failing (finding_checks p room) after ≡ after
@@ -87,22 +91,22 @@ module _ (version : ℕ) (ws room : List ℕ) {r : Finding} {after : List ℕ} (
   abbrev search_answer : Answer
   search_answer = first_failing (finding_checks p (length room)) (first_found (witnesses p))
 
-  checked : finding_answer r ≡ problem_checked version ws search_answer
+  checked : answer_of r ≡ problem_checked version ws search_answer
   checked = call.answered ∙ find_witness_is version ws (length room)
 
-  answered : WellFormed version ws → finding_answer r ≡ search_answer
+  answered : WellFormed version ws → answer_of r ≡ search_answer
   answered formed = checked ∙ checked_if_well_formed version ws search_answer formed
 
-  formed_by_number : (k : ℕ) → Apart k check_numbers → (finding_answer r).number ≡ k → WellFormed version ws
-  formed_by_number k apart e = well_formed_by_number version ws search_answer k apart (number_of (sym checked) ∙ e)
+  formed_if_over : (k : ℕ) → 15 < k → (answer_of r).number ≡ k → WellFormed version ws
+  formed_if_over k over e = well_formed_if_over version ws search_answer k over (number_of (sym checked) ∙ e)
 
   -- 17 exactly where more than 16 bytes are open, 18 where the room is too small then.
   pub too_much_open_if : (n : ℕ) → (r ≡ TooMuchOpen n) ↔ (WellFormed version ws × (search_limit < open_bytes p) × (n ≡ open_bytes p))
-  too_much_open_if n = (λ e. there (ap finding_answer e), λ h. same_outcome (answered h.0 ∙ rw (lt-leb (open_bytes p) search_limit h.1, h.2)))
+  too_much_open_if n = (λ e. there (ap answer_of e), λ h. same_outcome (answered h.0 ∙ rw (lt-leb (open_bytes p) search_limit h.1, h.2)))
     where
-      there : finding_answer r ≡ too_much_open n → WellFormed version ws × (search_limit < open_bytes p) × (n ≡ open_bytes p)
+      there : answer_of r ≡ too_much_open n → WellFormed version ws × (search_limit < open_bytes p) × (n ≡ open_bytes p)
       there e =
-          let formed = formed_by_number 17 refl (number_of e) in
+          let formed = formed_if_over 17 (lit< tt) (number_of e) in
           elim (one_check (leb (open_bytes p) search_limit) _ _ (sym (answered formed) ∙ e)) [
             | inl a ↦ elim (one_check (leb (witness_length p) (length room)) _ _ a.1) [
               | inl b ↦ absurd (found_not (witnesses p) 17 (lit< tt) (lit< tt) (number_of b.1))
@@ -114,14 +118,14 @@ module _ (version : ℕ) (ws room : List ℕ) {r : Finding} {after : List ℕ} (
   pub room_too_small_if : (n : ℕ) → (r ≡ RoomTooSmall n)
       ↔ (WellFormed version ws × (open_bytes p ≤ search_limit) × (length room < witness_length p) × (n ≡ witness_length p))
   room_too_small_if n = (
-    λ e. there (ap finding_answer e),
+    λ e. there (ap answer_of e),
     λ h. same_outcome (answered h.0 ∙ rw (le-leb (open_bytes p) search_limit h.1, lt-leb (witness_length p) (length room) h.2, h.3)),
   )
     where
-      there : finding_answer r ≡ witness_room_too_small n
+      there : answer_of r ≡ witness_room_too_small n
           → WellFormed version ws × (open_bytes p ≤ search_limit) × (length room < witness_length p) × (n ≡ witness_length p)
       there e =
-          let formed = formed_by_number 18 refl (number_of e) in
+          let formed = formed_if_over 18 (lit< tt) (number_of e) in
           elim (one_check (leb (open_bytes p) search_limit) _ _ (sym (answered formed) ∙ e)) [
             | inl a ↦ elim (one_check (leb (witness_length p) (length room)) _ _ a.1) [
               | inl b ↦ absurd (found_not (witnesses p) 18 (lit< tt) (lit< tt) (number_of b.1))
@@ -135,31 +139,31 @@ module _ (version : ℕ) (ws room : List ℕ) {r : Finding} {after : List ℕ} (
       → WellFormed version ws × Searched p (length room) × (n ≡ witness_length p)
       × ((bs : List ℕ) × (after ≡ written bs room) × Witness p bs × ((cs : List ℕ) → Witness p cs → at_or_before bs cs ≡ true))
   found_first {n} e =
-      let formed = formed_by_number 0 refl (number_of (ap finding_answer e)) in
-      let search : search_answer ≡ granted n = sym (answered formed) ∙ ap finding_answer e in
+      let formed = well_formed_if_checked version ws search_answer (number_of (sym checked ∙ ap answer_of e)) in
+      let search : search_answer ≡ granted n = sym (answered formed) ∙ ap answer_of e in
       let searched = searched_if p (length room) _ search (λ q. omega arith) (λ q. omega arith) in
       let listed = first_if_found p (sym (searched_then p (length room) _ searched) ∙ search) in
       let first = first_witness p listed.2 in (
         formed,
         searched,
         listed.3 ∙ first.0.length_right,
-        (listed.0, call.room_after ∙ room_found version ws room (finding_answer r) (number_of (ap finding_answer e)) listed.2, first.0, first.1),
+        (listed.0, call.room_after ∙ room_found version ws room (answer_of r) (number_of (ap answer_of e)) listed.2, first.0, first.1),
       )
 
   -- None exactly where the CNF cannot be satisfied, given that the search comes to be.
   pub none_unsatisfiable : WellFormed version ws → Searched p (length room) → (r ≡ NoneExists) ↔ (((a : Assignment) × Model p a) → ⊥)
   none_unsatisfiable formed searched =
       let unsatisfiable = empty_is_unsatisfiable p (proper_if_well_formed version ws formed) in
-      let search : finding_answer r ≡ first_found (witnesses p) = answered formed ∙ searched_then p (length room) _ searched in (
-        λ e. unsatisfiable.0 (none_if_none p (sym search ∙ ap finding_answer e)),
+      let search : answer_of r ≡ first_found (witnesses p) = answered formed ∙ searched_then p (length room) _ searched in (
+        λ e. unsatisfiable.0 (none_if_none p (sym search ∙ ap answer_of e)),
         λ none. same_outcome (search ∙ rw (unsatisfiable.1 none)),
       )
 
   -- And then there is no lasso at any bound from 0 to k and no prefix at k, and without constraints no witness at any of these bounds.
   pub none_excludes : r ≡ NoneExists → WellFormed version ws × Searched p (length room) × Excluded p
   none_excludes e =
-      let formed = formed_by_number 29 refl (number_of (ap finding_answer e)) in
-      let search : search_answer ≡ none_exists 0 = sym (answered formed) ∙ ap finding_answer e in
+      let formed = formed_if_over 29 (lit< tt) (number_of (ap answer_of e)) in
+      let search : search_answer ≡ none_exists 0 = sym (answered formed) ∙ ap answer_of e in
       let searched = searched_if p (length room) _ search (λ q. omega arith) (λ q. omega arith) in (
         formed,
         searched,

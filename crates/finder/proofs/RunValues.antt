@@ -206,7 +206,7 @@ module _ {p : Problem} {m : ℕ} where
         inputs : (i : ℕ) → i < s.inputs → get_or row i false ≡ get_or (get_or run (n + 1) []) i false
         inputs = put_after s.inputs s.latches (get_or run (n + 1) []) row _ (omega (arith, fits)) begins
 
-        latches : (i : ℕ) → i < s.latches → get_or row (s.inputs + i) false ≡ literal_value (row_in table' n) (latch p i).next_literal
+        latches : (i : ℕ) → i < s.latches → get_or row (s.inputs + i) false ≡ literal_value (row_in table' n) (latch p i).next
         latches i q =
             put_at s.inputs s.latches (get_or run (n + 1) []) row _ (omega (arith, fits)) begins i q
             ∙ next_by_row p (row_in table' n) i (omega arith)

@@ -8,7 +8,7 @@ use Rattle.finder.specs.Calls.{room_after_finding}
 use Rattle.problem.specs.declared.Refusal.TheVariants.{BadVersion, BadLength, OutsideLimits, BadReset, BadLiteral, BadNode}
 use Rattle.finder.specs.declared.Finding.{Finding}
 use Rattle.finder.specs.declared.Finding.TheVariants as findings
-use Rattle.finder.specs.Promise.{finding_answer, FoundAs}
+use Rattle.finder.specs.Promise.{answer_of, FoundAs}
 
 abbrev none : ℕ → Finding
 none p = findings.NoneExists
@@ -32,7 +32,7 @@ by_number =
 abbrev outcome_back : Answer → Finding
 outcome_back a = get_or by_number a.number (λ p. findings.NoneExists) a.place
 
-outcome_back_of : (r : Finding) → outcome_back (finding_answer r) ≡ r
+outcome_back_of : (r : Finding) → outcome_back (answer_of r) ≡ r
 outcome_back_of (findings.Found n) = refl
 outcome_back_of (findings.Problem BadVersion) = refl
 outcome_back_of (findings.Problem (BadLength n)) = refl
@@ -45,7 +45,7 @@ outcome_back_of (findings.RoomTooSmall n) = refl
 outcome_back_of findings.NoneExists = refl
 
 -- Outcomes with one answer are one.
-pub same_outcome : {r r' : Finding} → finding_answer r ≡ finding_answer r' → r ≡ r'
+pub same_outcome : {r r' : Finding} → answer_of r ≡ answer_of r' → r ≡ r'
 same_outcome {r} {r'} e = sym (outcome_back_of r) ∙ ap outcome_back e ∙ outcome_back_of r'
 
 pub found_unique : {version : ℕ} {ws before : List ℕ} {r r' : Finding} {after after' : List ℕ}

@@ -11,22 +11,22 @@ use Rattle.finder.specs.declared.Finding.{Finding}
 use Rattle.finder.specs.declared.Finding.TheVariants.{Found, Problem, TooMuchOpen, RoomTooSmall, NoneExists}
 
 -- The number and the place of each outcome.
-abbrev pub finding_answer : Finding → Answer
-finding_answer (Found n) = granted n
-finding_answer (Problem f) = refusal_answer f
-finding_answer (TooMuchOpen n) = too_much_open n
-finding_answer (RoomTooSmall n) = witness_room_too_small n
-finding_answer NoneExists = none_exists 0
+abbrev pub answer_of : Finding → Answer
+answer_of (Found n) = granted n
+answer_of (Problem f) = refusal_answer f
+answer_of (TooMuchOpen n) = too_much_open n
+answer_of (RoomTooSmall n) = witness_room_too_small n
+answer_of NoneExists = none_exists 0
 
 -- Of a good problem: 17, 18, the first witness or none; and the room after it.
 pub record FoundIn (p : problems.Problem) (before : List ℕ) (r : Finding) (after : List ℕ) : Type 0 where
-  pub answered : finding_answer r ≡ first_failing (finding_checks p (length before)) (first_found (witnesses p))
-  pub room_after : after ≡ cond (eqb (finding_answer r).number 0) (with_first (witnesses p) before) before
+  pub answered : answer_of r ≡ first_failing (finding_checks p (length before)) (first_found (witnesses p))
+  pub room_after : after ≡ cond (eqb (answer_of r).number 0) (with_first (witnesses p) before) before
 
 -- The finder: its answer, and the witness room after it.
 pub record FoundAs (version : ℕ) (ws before : List ℕ) (r : Finding) (after : List ℕ) : Type 0 where
-  pub answered : finding_answer r ≡ find_witness version ws (length before)
-  pub room_after : after ≡ room_after_finding (finding_answer r) version ws before
+  pub answered : answer_of r ≡ find_witness version ws (length before)
+  pub room_after : after ≡ room_after_finding (answer_of r) version ws before
 
 -- 17 and 18 pass: few bytes are open, and the room has the bytes of a witness.
 pub record Searched (p : problems.Problem) (room : ℕ) : Type 0 where

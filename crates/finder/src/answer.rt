@@ -1,12 +1,12 @@
 // The number and place of each answer to a search.
 ghost use Rattle.std.specs.Prelude.{◌≡◌};
-ghost use Rattle.finder.specs.Promise.{finding_answer};
+ghost use Rattle.finder.specs.Promise.{answer_of};
 
 use crate::Finding;
 use problem::answer::{refusal_number, refusal_place};
 
 pub fn number(a: Finding) -> u32
-    ensures { result ≡ (finding_answer a).number }
+    ensures { result ≡ (answer_of a).number }
 {
     match a {
         Finding::Found(_) => 0,
@@ -18,7 +18,7 @@ pub fn number(a: Finding) -> u32
 }
 
 pub fn place(a: Finding) -> usize
-    ensures { result ≡ (finding_answer a).place }
+    ensures { result ≡ (answer_of a).place }
 {
     match a {
         Finding::Found(n) => n,

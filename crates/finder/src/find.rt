@@ -5,7 +5,7 @@ ghost use Rattle.meaning.specs.Witnesses.{witness_length};
 ghost use Rattle.finder.specs.Calls.{open_bytes, first_found, with_first};
 ghost use Rattle.meaning.specs.Calls.{witnesses};
 ghost use Rattle.problem.specs.Promise.{problem_in, ProperIn};
-ghost use Rattle.finder.specs.Promise.{FoundIn, FoundAs, finding_answer};
+ghost use Rattle.finder.specs.Promise.{FoundIn, FoundAs, answer_of};
 
 use crate::Finding;
 use crate::bits::{open_bytes, runs};
@@ -19,10 +19,10 @@ use values::bytes::witness_length;
 // The search, where there is room: nothing is written before it ends.
 fn found(words: &[u32], s: Outline, bits: usize, needed: usize, room: &mut [u8]) -> Finding
     requires { ProperIn s words.now × (bits ≡ open_bytes (problem_in s words.now)) × (bits ≤ search_limit) × (needed ≡ witness_length (problem_in s words.now)) × (needed ≤ length room.old) }
-    ensures { (finding_answer result ≡ first_found (witnesses (problem_in s words.now))) × (room.new ≡ with_first (witnesses (problem_in s words.now)) room.old) }
+    ensures { (answer_of result ≡ first_found (witnesses (problem_in s words.now))) × (room.new ≡ with_first (witnesses (problem_in s words.now)) room.old) }
 {
     let best = search(words, s, runs(bits));
-    if s.bound + 1 < best.loop_byte {
+    if s.bound + 1 < best.first {
         return Finding::NoneExists;
     }
     write(words, s, best, room);

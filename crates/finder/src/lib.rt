@@ -4,7 +4,7 @@ use problem::Refusal;
 pub mod answer;
 mod bits;
 pub mod find;
-mod loop_byte;
+mod first;
 mod room;
 mod rows;
 mod run;

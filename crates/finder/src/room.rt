@@ -31,16 +31,16 @@ fn put(bits: &[bool], from: usize, count: usize, room: &mut [u8], at: usize)
     }
 }
 
-// The loop byte, the first latches, and the inputs of each position.
+// The first byte, the first latches, and the inputs of each position.
 pub(crate) fn write(words: &[u32], s: Outline, best: Best, room: &mut [u8])
-    requires { ProperIn s words.now × (best.loop_byte ≤ s.bound + 1) × (witness_length (problem_in s words.now) ≤ length room.old) }
-    ensures { room.new ≡ written (best.loop_byte ∷ run_bytes (problem_in s words.now) best.run) room.old }
+    requires { ProperIn s words.now × (best.first ≤ s.bound + 1) × (witness_length (problem_in s words.now) ≤ length room.old) }
+    ensures { room.new ≡ written (best.first ∷ run_bytes (problem_in s words.now) best.run) room.old }
 {
     let mut run = [[false; GIVEN]; POSITIONS];
     fill(words, s, best.run, &mut run);
     let inputs = s.inputs as usize;
     let latches = s.latches as usize;
-    room[0] = best.loop_byte as u8;
+    room[0] = best.first as u8;
     put(&run[0], inputs, latches, room, LATCHES_AT);
     let mut t: usize = 0;
     while t <= (s.bound as usize) {

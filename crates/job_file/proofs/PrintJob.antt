@@ -21,7 +21,7 @@ use Rattle.problem.proofs.Unique.{refusal_not_yes}
 use Rattle.counts.specs.declared.Counts.{Counts}
 use Rattle.encoder.specs.declared.Encoded.{Encoded}
 use Rattle.encoder.specs.declared.Encoded.TheVariants.{Written, Problem, RoomTooSmall}
-use Rattle.encoder.specs.Promise.{encoded_answer, EncodedAs}
+use Rattle.encoder.specs.Promise.{answer_of, EncodedAs}
 use Rattle.job_file.specs.declared.job.Job.{Job}
 use Rattle.job_file.specs.declared.job.JobAnswer.TheVariants.{Good, Bad}
 use Rattle.job_file.specs.Text.{flat_text, encoded_text}
@@ -85,7 +85,7 @@ module _ (bs : List ℕ) where
       abbrev Encodes : Encoded → List ℤ → Type 0
       Encodes = EncodedAs j.version words (replicate program_room (pos 0))
 
-      answered : {r : Encoded} {after : List ℤ} → Encodes r after → encoded_answer r ≡ job_answer bs
+      answered : {r : Encoded} {after : List ℤ} → Encodes r after → answer_of r ≡ job_answer bs
       answered e = rw length-replicate at e.answered ∙ answer_is
 
       -- The numbers that writing handed on head the words that it wrote.

@@ -13,7 +13,7 @@ use Rattle.answers.specs.Answers.{Answer, answer}
 use Rattle.text.specs.Promise.{largest_size}
 use Rattle.text.proofs.Buffers.{Put}
 use Rattle.job_file.specs.JobFile.{refusal_line}
-use Rattle.job_file.specs.Promise.{bytes_needed, Prints}
+use Rattle.job_file.specs.Promise.{size, Prints}
 use Rattle.job_file.specs.declared.texts.Printed.{Printed}
 use Rattle.job_file.specs.declared.texts.Printed.TheVariants.{Bytes, Short}
 
@@ -28,11 +28,11 @@ line_by a e f = rw (e, f)
 -- ════════ The promise kept ════════
 
 module _ (text out : List ℕ) (n : ℕ) where
-  pub size_exact : n ≡ length text → n < 2 ^ 64 → n ≡ bytes_needed text
+  pub size_exact : n ≡ length text → n < 2 ^ 64 → n ≡ size text
   unfolding largest_size
   size_exact e h = omega arith
 
-  module _ (e : n ≡ bytes_needed text) where
+  module _ (e : n ≡ size text) where
     pub prints_short : length out < n → Prints text out (Short n) out
     prints_short h =
         let long : leb (length text) (length out) ≡ false = lt-leb (length text) (length out) (omega arith) in
@@ -64,7 +64,7 @@ was_written (Short n) = false
 pub written_whole : {text out : List ℕ} {n : ℕ} {out' : List ℕ} → Prints text out (Bytes n) out' → (n ≡ length text) × (out' ≡ written text out)
 written_whole {text} {out} {n} {out'} p = go (leb (length text) (length out)) p.answered p.left
   where
-    go : (b : Bool) → Bytes n ≡ cond b (Bytes (length text)) (Short (bytes_needed text)) → out' ≡ cond b (written text out) out
+    go : (b : Bool) → Bytes n ≡ cond b (Bytes (length text)) (Short (size text)) → out' ≡ cond b (written text out) out
         → (n ≡ length text) × (out' ≡ written text out)
     go true e f = (ap count_of e, f)
     go false e f = absurd (true≢false (ap was_written e))
@@ -80,6 +80,6 @@ bytes_within {text} {out} {n} {out'} p =
 pub short_without_room : {text out : List ℕ} {n : ℕ} {out' : List ℕ} → Prints text out (Short n) out' → length out < length text
 short_without_room {text} {out} {n} {out'} p = go (leb (length text) (length out)) refl p.answered
   where
-    go : (b : Bool) → leb (length text) (length out) ≡ b → Short n ≡ cond b (Bytes (length text)) (Short (bytes_needed text)) → length out < length text
+    go : (b : Bool) → leb (length text) (length out) ≡ b → Short n ≡ cond b (Bytes (length text)) (Short (size text)) → length out < length text
     go true l e = absurd (true≢false (sym (ap was_written e)))
     go false l e = leb-false (length text) (length out) l

@@ -11,7 +11,7 @@ use Rattle.text.specs.Promise.{largest_size}
 use Rattle.text.proofs.Buffers.{Put, put_then, put_length}
 use Rattle.meaning.proofs.Numbers.{each_append}
 use Rattle.job_file.specs.Text.{word_text, words_text}
-use Rattle.job_file.specs.Promise.{bytes_needed}
+use Rattle.job_file.specs.Promise.{size}
 
 module _ (ws : List ℤ) (i : ℕ) (h : i < length ws) where
   words_text_more : words_text (take (i + 1) ws) ≡ words_text (take i ws) ++ word_text (get_or ws i (pos 0))
@@ -24,8 +24,8 @@ module _ (ws : List ℤ) (i : ℕ) (h : i < length ws) where
   length_words_more : length (words_text (take (i + 1) ws)) ≡ length (words_text (take i ws)) + length (word_text (get_or ws i (pos 0)))
   length_words_more = ap length words_text_more ∙ length-append (words_text (take i ws)) (word_text (get_or ws i (pos 0)))
 
-  pub size_more : (n k : ℕ) → n ≡ bytes_needed (words_text (take i ws)) → k ≡ length (word_text (get_or ws i (pos 0)))
-      → min (n + k) largest_size ≡ bytes_needed (words_text (take (i + 1) ws))
+  pub size_more : (n k : ℕ) → n ≡ size (words_text (take i ws)) → k ≡ length (word_text (get_or ws i (pos 0)))
+      → min (n + k) largest_size ≡ size (words_text (take (i + 1) ws))
   size_more n k e f = omega (arith, length_words_more)
 
   length_words_within : length (words_text (take (i + 1) ws)) ≤ length (words_text ws)

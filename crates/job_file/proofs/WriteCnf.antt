@@ -18,7 +18,7 @@ use Rattle.meaning.specs.Calls.{WellFormed, write_cnf, room_after_writing}
 use Rattle.meaning.proofs.Check.{well_formed_if_checked, checked_if_well_formed}
 use Rattle.meaning.proofs.Calls.{write_cnf_is}
 use Rattle.encoder.specs.declared.Encoded.{Encoded}
-use Rattle.encoder.specs.Promise.{encoded_answer, EncodedAs}
+use Rattle.encoder.specs.Promise.{answer_of, EncodedAs}
 
 module _ (version : ℕ) (ws : List ℕ) where
   abbrev pub needed : ℕ
@@ -40,19 +40,19 @@ module _ (version : ℕ) (ws : List ℕ) where
 
   -- ════════ The room ════════
 
-  module _ {before after : List ℤ} {r : Encoded} (e : EncodedAs version ws before r after) (yes : (encoded_answer r).number ≡ 0) where
+  module _ {before after : List ℤ} {r : Encoded} (e : EncodedAs version ws before r after) (yes : (answer_of r).number ≡ 0) where
     fits : ((write_cnf version ws (length before)).place ≡ needed) × (needed ≤ length before)
     fits = fits_if_written (length before) (number_of (sym e.answered) ∙ yes)
 
-    place_is : (encoded_answer r).place ≡ needed
+    place_is : (answer_of r).place ≡ needed
     place_is = place_of e.answered ∙ fits.0
 
     holds : after ≡ written (cnf_words (problem version ws)) before
     unfolding room_after_writing
     holds = e.room_after ∙ rw yes
 
-    pub within_room : (encoded_answer r).place ≤ length after
+    pub within_room : (answer_of r).place ≤ length after
     within_room = rw holds (omega (arith, place_is, length-append (cnf_words (problem version ws)) (drop needed before)))
 
-    pub cnf_there : take (encoded_answer r).place after ≡ cnf_words (problem version ws)
-    cnf_there = rw holds (take_at (cnf_words (problem version ws)) (drop needed before) (encoded_answer r).place (sym place_is))
+    pub cnf_there : take (answer_of r).place after ≡ cnf_words (problem version ws)
+    cnf_there = rw holds (take_at (cnf_words (problem version ws)) (drop needed before) (answer_of r).place (sym place_is))

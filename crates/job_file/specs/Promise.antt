@@ -44,11 +44,11 @@ pub record JobRead (bs : List ℕ) (j : Job) : Type 0 where
 -- ════════ A text printed into a buffer ════════
 
 -- The text of 2^60 words and more can be longer than the largest size, and is then said to need so many bytes.
-abbrev pub bytes_needed : List ℕ → ℕ
-bytes_needed text = min (length text) largest_size
+abbrev pub size : List ℕ → ℕ
+size text = min (length text) largest_size
 
 abbrev pub answered_for : List ℕ → List ℕ → Printed
-answered_for text out = cond (leb (length text) (length out)) (Bytes (length text)) (Short (bytes_needed text))
+answered_for text out = cond (leb (length text) (length out)) (Bytes (length text)) (Short (size text))
 
 abbrev pub left_by : List ℕ → List ℕ → List ℕ
 left_by text out = cond (leb (length text) (length out)) (written text out) out

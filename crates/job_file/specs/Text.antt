@@ -7,7 +7,7 @@ use Rattle.answers.specs.Limits.{program_room}
 use Rattle.job_file.specs.JobFile.{header_line, refusal_line}
 use Rattle.encoder.specs.declared.Encoded.{Encoded}
 use Rattle.encoder.specs.declared.Encoded.TheVariants.{Written, Problem, RoomTooSmall}
-use Rattle.encoder.specs.Promise.{encoded_answer}
+use Rattle.encoder.specs.Promise.{answer_of}
 
 -- The word 0 ends its line; after another word comes a space.
 abbrev pub word_text : ℤ → List ℕ
@@ -26,8 +26,8 @@ line_of opening first between second = opening ++ decimal first ++ between ++ de
 -- What is printed by the outcome of writing: the text of the CNF's numbers and of the words that were written to the room, or the refusal's line.
 abbrev pub encoded_text : Encoded → List ℤ → List ℕ
 encoded_text (Written n) room = flat_text n.variables n.clauses (take n.words room)
-encoded_text (Problem f) room = refusal_line (encoded_answer (Problem f))
-encoded_text (RoomTooSmall n) room = refusal_line (encoded_answer (RoomTooSmall n))
+encoded_text (Problem f) room = refusal_line (answer_of (Problem f))
+encoded_text (RoomTooSmall n) room = refusal_line (answer_of (RoomTooSmall n))
 
 -- Bytes enough for every text of the program: 12 for each of its CNF words (a sign, ten digits, a space), and 28 for the header (8 of its
 -- own, ten digits for each of its numbers).

@@ -1,7 +1,7 @@
 // What the program prints for a job file.
 ghost use Rattle.std.specs.Prelude.{◌≡◌, ◌≤◌, length};
 ghost use Rattle.job_file.specs.JobFile.{printed};
-ghost use Rattle.encoder.specs.Promise.{encoded_answer};
+ghost use Rattle.encoder.specs.Promise.{answer_of};
 ghost use Rattle.job_file.specs.Text.{encoded_text};
 ghost use Rattle.job_file.specs.Promise.{Prints};
 
@@ -15,7 +15,7 @@ use encoder::encode::write_cnf;
 
 // The text of the CNF that was written to the room, or the line of a refusal.
 fn print_encoded(r: Encoded, room: &[i32], out: &mut [u8]) -> Printed
-    requires { (encoded_answer r).number ≡ 0 → (encoded_answer r).place ≤ length room.now }
+    requires { (answer_of r).number ≡ 0 → (answer_of r).place ≤ length room.now }
     ensures { Prints (encoded_text r room.now) out.old result out.new }
 {
     match r {

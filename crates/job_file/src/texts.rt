@@ -4,11 +4,11 @@ ghost use Rattle.answers.specs.Answers.{answer};
 ghost use Rattle.text.proofs.Buffers.{Put};
 ghost use Rattle.job_file.specs.JobFile.{header_line, refusal_line};
 ghost use Rattle.job_file.specs.Text.{word_text, words_text, flat_text};
-ghost use Rattle.job_file.specs.Promise.{bytes_needed, Prints};
+ghost use Rattle.job_file.specs.Promise.{size, Prints};
 
 use crate::put::put_line;
 use clauses::literals::variable;
-use text::put::{capped_sum, digits, put_bytes, put_ended};
+use text::put::{digits, put_bytes, put_ended, sum};
 
 // The bytes of a text that was written, or those that it needs.
 #[derive(Drop)]
@@ -44,12 +44,12 @@ fn put_word(w: i32, at: usize, out: &mut [u8]) -> usize
 }
 
 fn words_size(cnf: &[i32]) -> usize
-    ensures { result ≡ bytes_needed (words_text cnf.now) }
+    ensures { result ≡ size (words_text cnf.now) }
 {
     let mut bytes = 0;
     let mut i = 0;
     while i < cnf.len() {
-        bytes = capped_sum(bytes, word_size(cnf[i]));
+        bytes = sum(bytes, word_size(cnf[i]));
         i += 1;
     }
     bytes
@@ -78,7 +78,7 @@ fn header_size(variables: usize, clauses: usize) -> usize
 pub(crate) fn cnf_text(variables: usize, clauses: usize, cnf: &[i32], out: &mut [u8]) -> Printed
     ensures { Prints (flat_text variables clauses cnf.now) out.old result out.new }
 {
-    let needed = capped_sum(header_size(variables, clauses), words_size(cnf));
+    let needed = sum(header_size(variables, clauses), words_size(cnf));
     if out.len() < needed {
         return Printed::Short(needed);
     }

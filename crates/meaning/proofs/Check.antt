@@ -5,13 +5,13 @@ use mathlib.Core.Bool.{Bool, true, false, not, true≢false}
 use mathlib.Core.List.{List, [], ◌∷◌, ◌++◌}
 use Prim.Native.Nat.{ℕ, zero, suc, ◌+◌, ◌*◌, ◌≤◌, ◌<◌, zero-le}
 use native.Mathlib.Omega.{arith}
-use borrow.Author.Tests.{leb-true, le-leb, ltb-true, lt-ltb, eqb-true, eq-eqb}
+use borrow.Author.Tests.{leb-true, le-leb, ltb-true, lt-ltb, eqb-true, eq-eqb, ne_eqb}
 use lib.Dec.{leb, eqb, lit<}
 use lib.ListN.{length, get_or}
 use Rattle.answers.specs.Lists.{all_of, joined}
 use Rattle.answers.specs.Answers.{Answer, Check, check, first_failing, first_failing_part, granted}
 use Rattle.answers.proofs.Tests.{both_true, false_if_not_true, all_of_at, first_true, second_true}
-use Rattle.answers.proofs.Answers.{passing, other_than, passed_by_number, first_failing_passed, first_failing_joined, parts_append, all_pass_if_yes, number_of}
+use Rattle.answers.proofs.Answers.{passing, refusing, other_than, passed_by_number, first_failing_passed, first_failing_joined, parts_append, all_pass_if_yes, number_of}
 use Rattle.meaning.specs.Problem.{Problem, W, Outline, outline, word, constraint_place, node_place, children, node_of, problem_by, problem}
 use Rattle.meaning.specs.Check.{largest_literal, first_right, second_right, children_of, header_checks, limit_check, limit_checks, length_checks, latch_checks, gate_checks, constraint_checks, node_checks}
 use Rattle.meaning.specs.Proper.{LatchRight, GateRight, FirstRight, SecondRight, NodeRight, InLimits, RulesMet, NodeProper, Proper}
@@ -130,44 +130,43 @@ module _ (ws : List ℕ) (i least most : ℕ) (e : (limit_check ws i least most)
   most_if_passes : word ws i ≤ most
   most_if_passes = leb-true _ _ (second_true (leb least (word ws i)) (leb (word ws i) most) e)
 
--- The numbers of a problem's checks.
-abbrev pub check_numbers : List ℕ
-check_numbers = 1 ∷ 2 ∷ 3 ∷ 4 ∷ 5 ∷ 15 ∷ []
-
--- A number is none of those.
-abbrev pub Apart : ℕ → List ℕ → Type 0
-Apart k ns = all_of (λ n. not (eqb n k)) ns ≡ true
-
 module _ (version : ℕ) (ws : List ℕ) where
   abbrev o : Outline
   o = outline version ws
 
-  pub all_checks_other : (k : ℕ) → Apart k check_numbers → all_of (other_than k) (all_checks version ws) ≡ true
-  all_checks_other k apart =
+  -- The checks of a problem have the numbers 1 to 5 and 15.
+  all_checks_other : (k : ℕ) → ((n : ℕ) → 1 ≤ n → n ≤ 15 → n ≡ k → ⊥) → all_of (other_than k) (all_checks version ws) ≡ true
+  all_checks_other k other =
       (all_of_joined (other_than k) (check_parts version ws)).1
-      (both_true (is 5 (lit< tt)) (both_true one refl)
+      (both_true (is 15 (omega arith) (omega arith)) (both_true one refl)
       and both_true two (both_true two (both_true two (both_true two (both_true two (both_true two refl)))))
       and both_true one refl
-      and all_of_each_below (other_than k) (latch_checks o ws) o.latches (λ i l. both_true four (both_true (is 2 (lit< tt)) refl))
+      and all_of_each_below (other_than k) (latch_checks o ws) o.latches (λ i l. both_true four (both_true (is 3 (omega arith) (omega arith)) refl))
       and all_of_each_below (other_than k) (gate_checks o ws) o.gates (λ j l. both_true four (both_true four refl))
       and all_of_each_below (other_than k) (constraint_checks o ws) o.constraints (λ c l. both_true four refl)
       and all_of_each_below (other_than k) (node_checks children o ws) o.written_nodes (λ n l. both_true five (both_true five (both_true five refl)))
       and tt)
     where
-      is : (i : ℕ) → i < 6 → not (eqb (get_or check_numbers i 0) k) ≡ true
-      is i l = all_of_at (λ n. not (eqb n k)) check_numbers i 0 apart l
+      is : (n : ℕ) → 1 ≤ n → n ≤ 15 → not (eqb n k) ≡ true
+      is n l h = rw (ne_eqb n k (other n l h))
 
       one : not (eqb 1 k) ≡ true
-      one = is 0 (lit< tt)
+      one = is 1 (omega arith) (omega arith)
 
       two : not (eqb 2 k) ≡ true
-      two = is 1 (lit< tt)
+      two = is 2 (omega arith) (omega arith)
 
       four : not (eqb 4 k) ≡ true
-      four = is 3 (lit< tt)
+      four = is 4 (omega arith) (omega arith)
 
       five : not (eqb 5 k) ≡ true
-      five = is 4 (lit< tt)
+      five = is 5 (omega arith) (omega arith)
+
+  pub all_checks_refusing : all_of refusing (all_checks version ws) ≡ true
+  all_checks_refusing = all_checks_other 0 (λ n l h e. omega arith)
+
+  pub all_checks_below : (k : ℕ) → 15 < k → all_of (other_than k) (all_checks version ws) ≡ true
+  all_checks_below k over = all_checks_other k (λ n l h e. omega arith)
 
   pub limits_pass : InLimits o → all_of passing (limit_checks version ws) ≡ true
   limits_pass w =
@@ -228,7 +227,7 @@ module _ (version : ℕ) (ws : List ℕ) where
   pub all_pass_if_well_formed : WellFormed version ws → all_of passing (all_checks version ws) ≡ true
   unfolding check_problem
   all_pass_if_well_formed w =
-      all_pass_if_yes (all_checks version ws) (granted 0) (all_checks_other version ws 0 refl)
+      all_pass_if_yes (all_checks version ws) (granted 0) (all_checks_refusing version ws)
       (number_of (sym (first_failing_joined (check_parts version ws) (granted 0)) ∙ w))
 
   pub well_formed_if_all_pass : all_of passing (all_checks version ws) ≡ true → WellFormed version ws
@@ -247,24 +246,16 @@ checked_if_well_formed version ws after w =
     checked_by_all version ws after
     ∙ first_failing_passed (all_checks version ws) after (all_pass_if_well_formed version ws w)
 
--- An answer by a number that the check does not have comes from what comes after it, of well-formed words.
-pub well_formed_by_number : (version : ℕ) (ws : List ℕ) (after : Answer) (k : ℕ) → Apart k check_numbers
-    → (problem_checked version ws after).number ≡ k → WellFormed version ws
-well_formed_by_number version ws after k apart e =
-    well_formed_if_all_pass version ws
-    (passed_by_number k (all_checks version ws) after (all_checks_other version ws k apart) (rw checked_by_all at e))
-
 pub well_formed_if_checked : (version : ℕ) (ws : List ℕ) (after : Answer) → (problem_checked version ws after).number ≡ 0 → WellFormed version ws
-well_formed_if_checked version ws after = well_formed_by_number version ws after 0 refl
+well_formed_if_checked version ws after e =
+    well_formed_if_all_pass version ws
+    (all_pass_if_yes (all_checks version ws) after (all_checks_refusing version ws) (rw checked_by_all at e))
 
-pub past_check : (version : ℕ) (ws : List ℕ) (after x : Answer) → Apart x.number check_numbers
-    → (problem_checked version ws after ≡ x) ↔ (WellFormed version ws × (after ≡ x))
-past_check version ws after x apart = (
-  λ e.
-      let formed = well_formed_by_number version ws after x.number apart (number_of e) in
-      (formed, sym (checked_if_well_formed version ws after formed) ∙ e),
-  λ h. checked_if_well_formed version ws after h.0 ∙ h.1,
-)
+-- A number over 15 comes from what comes after the check.
+pub well_formed_if_over : (version : ℕ) (ws : List ℕ) (after : Answer) (k : ℕ) → 15 < k → (problem_checked version ws after).number ≡ k → WellFormed version ws
+well_formed_if_over version ws after k over e =
+    well_formed_if_all_pass version ws
+    (passed_by_number k (all_checks version ws) after (all_checks_below version ws k over) (rw checked_by_all at e))
 
 -- A refusal of the check does not depend on what comes after it.
 pub not_well_formed : (version : ℕ) (ws : List ℕ) (a b : Answer) → ¬ WellFormed version ws

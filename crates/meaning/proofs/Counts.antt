@@ -11,10 +11,9 @@ use lib.ListN.{length, get_or, length-append, length-map}
 use Rattle.answers.specs.Lists.{numbers, each, those, sum}
 use Rattle.clauses.specs.Clauses.{Clause, negated}
 use Rattle.clauses.specs.CnfWords.{words_of}
-use Rattle.meaning.specs.Problem.{Problem, Latch, Node, latch, node, atom_node, both_node, either_node, next_node, until_node, release_node}
+use Rattle.meaning.specs.Problem.{Problem, Latch, Node, latch, node, atom, both, either, next, until, release}
 use Rattle.meaning.specs.Cnf.{variables, positions, selector, latch_at, truth_item, gate_clauses, gates_item, constraint_unit, constraints_item, reset_unit, resets_item, steps_item, closing_clauses, closing_item, selectors_item, p_clauses, q_clauses, e_clauses, node_clauses, nodes_item, formula_item, cnf_items, cnf, cnf_words}
-use Rattle.meaning.specs.Tally.{fixed_resets, is_equal, is_junction, is_unfolding, tally}
-use Rattle.meaning.proofs.ClosedForms.{pairs, node_count, equal_weight, junction_weight, unfolding_weight, selected_weight, values_weight, end_weight, item_totals, variable_count, clause_count, word_count}
+use Rattle.meaning.proofs.ClosedForms.{fixed_resets, has_equal_form, has_or_form, has_until_form, tally, pairs, node_count, equal_weight, or_weight, until_weight, selected_weight, values_weight, end_weight, item_totals, variable_count, clause_count, word_count}
 use Rattle.meaning.proofs.Numbers.{length_numbers}
 use Rattle.meaning.proofs.ItemByItem.{◌∷≡◌, total, total_append, total_by_items}
 
@@ -78,34 +77,34 @@ sum_of_resets w (x ∷ xs) = go (ltb x.reset 2) (sum_of_resets w xs)
 
 -- What a node has, by its form.
 abbrev by_form : ℕ → ℕ → ℕ → Node → ℕ
-by_form a b c (atom_node x) = a
-by_form a b c (both_node l r) = b
-by_form a b c (either_node l r) = b
-by_form a b c (next_node l) = a
-by_form a b c (until_node l r) = c
-by_form a b c (release_node l r) = c
+by_form a b c (atom x) = a
+by_form a b c (both l r) = b
+by_form a b c (either l r) = b
+by_form a b c (next l) = a
+by_form a b c (until l r) = c
+by_form a b c (release l r) = c
 
 abbrev forms : ℕ → ℕ → ℕ → List Node → ℕ
-forms a b c xs = length (those is_equal xs) * a + length (those is_junction xs) * b + length (those is_unfolding xs) * c
+forms a b c xs = length (those has_equal_form xs) * a + length (those has_or_form xs) * b + length (those has_until_form xs) * c
 
 sum_of_forms : (a b c : ℕ) (xs : List Node) → sum_of (by_form a b c) xs ≡ forms a b c xs
 sum_of_forms a b c [] = omega arith
-sum_of_forms a b c (atom_node x ∷ xs) = rw (sum_of_forms a b c xs, suc-mul) (omega arith)
-sum_of_forms a b c (both_node l r ∷ xs) = rw (sum_of_forms a b c xs, suc-mul) (omega arith)
-sum_of_forms a b c (either_node l r ∷ xs) = rw (sum_of_forms a b c xs, suc-mul) (omega arith)
-sum_of_forms a b c (next_node l ∷ xs) = rw (sum_of_forms a b c xs, suc-mul) (omega arith)
-sum_of_forms a b c (until_node l r ∷ xs) = rw (sum_of_forms a b c xs, suc-mul) (omega arith)
-sum_of_forms a b c (release_node l r ∷ xs) = rw (sum_of_forms a b c xs, suc-mul) (omega arith)
+sum_of_forms a b c (atom x ∷ xs) = rw (sum_of_forms a b c xs, suc-mul) (omega arith)
+sum_of_forms a b c (both l r ∷ xs) = rw (sum_of_forms a b c xs, suc-mul) (omega arith)
+sum_of_forms a b c (either l r ∷ xs) = rw (sum_of_forms a b c xs, suc-mul) (omega arith)
+sum_of_forms a b c (next l ∷ xs) = rw (sum_of_forms a b c xs, suc-mul) (omega arith)
+sum_of_forms a b c (until l r ∷ xs) = rw (sum_of_forms a b c xs, suc-mul) (omega arith)
+sum_of_forms a b c (release l r ∷ xs) = rw (sum_of_forms a b c xs, suc-mul) (omega arith)
 
 -- Each node has one of the three forms.
-pub forms_are_all : (xs : List Node) → length (those is_equal xs) + length (those is_junction xs) + length (those is_unfolding xs) ≡ length xs
+pub forms_are_all : (xs : List Node) → length (those has_equal_form xs) + length (those has_or_form xs) + length (those has_until_form xs) ≡ length xs
 forms_are_all [] = refl
-forms_are_all (atom_node x ∷ xs) = rw (← forms_are_all xs) (omega arith)
-forms_are_all (both_node a b ∷ xs) = rw (← forms_are_all xs) (omega arith)
-forms_are_all (either_node a b ∷ xs) = rw (← forms_are_all xs) (omega arith)
-forms_are_all (next_node a ∷ xs) = rw (← forms_are_all xs) (omega arith)
-forms_are_all (until_node a b ∷ xs) = rw (← forms_are_all xs) (omega arith)
-forms_are_all (release_node a b ∷ xs) = rw (← forms_are_all xs) (omega arith)
+forms_are_all (atom x ∷ xs) = rw (← forms_are_all xs) (omega arith)
+forms_are_all (both a b ∷ xs) = rw (← forms_are_all xs) (omega arith)
+forms_are_all (either a b ∷ xs) = rw (← forms_are_all xs) (omega arith)
+forms_are_all (next a ∷ xs) = rw (← forms_are_all xs) (omega arith)
+forms_are_all (until a b ∷ xs) = rw (← forms_are_all xs) (omega arith)
+forms_are_all (release a b ∷ xs) = rw (← forms_are_all xs) (omega arith)
 
 -- ════════ The items ════════
 
@@ -117,10 +116,10 @@ module _ (w : ℕ → ℕ) (p : Problem) where
   truth_total : total w truth_item ≡ w 1
   truth_total = omega arith
 
-  gates_total : total w (gates_item p) ≡ (p.bound + 1) * (length p.gates * junction_weight w)
+  gates_total : total w (gates_item p) ≡ (p.bound + 1) * (length p.gates * or_weight w)
   gates_total =
       total_numbers w 0 (p.bound + 1) _ _
-      (λ t. total_numbers w 0 (length p.gates) (gate_clauses p t) (junction_weight w) (λ j. omega arith))
+      (λ t. total_numbers w 0 (length p.gates) (gate_clauses p t) (or_weight w) (λ j. omega arith))
 
   constraints_total : total w (constraints_item p) ≡ (p.bound + 1) * (length p.constraints * w 1)
   constraints_total =
@@ -174,7 +173,7 @@ module _ (w : ℕ → ℕ) (p : Problem) where
 
 -- The weight of P and Q at a position, by the node's form.
 abbrev form_weight : (ℕ → ℕ) → Node → ℕ
-form_weight w = by_form (equal_weight w + equal_weight w) (junction_weight w + equal_weight w) (unfolding_weight w + unfolding_weight w)
+form_weight w = by_form (equal_weight w + equal_weight w) (or_weight w + equal_weight w) (until_weight w + until_weight w)
 
 -- A multiple of each weight, and one weight for each element.
 sum_of_multiples : {A : Type 0} (h : A → ℕ) (k r : ℕ) (xs : List A) → sum_of (λ x. k * h x + r) xs ≡ k * sum_of h xs + length xs * r
@@ -183,12 +182,12 @@ sum_of_multiples h k r (x ∷ xs) = rw (sum_of_multiples h k r xs, suc-mul) (ome
 
 module _ (w : ℕ → ℕ) (p : Problem) where
   p_q_total : (n : ℕ) (x : Node) (i : ℕ) → total w (p_clauses p n x i ++ q_clauses p n x i) ≡ form_weight w x
-  p_q_total n (atom_node x) i = omega arith
-  p_q_total n (both_node a b) i = omega arith
-  p_q_total n (either_node a b) i = omega arith
-  p_q_total n (next_node a) i = omega arith
-  p_q_total n (until_node a b) i = omega arith
-  p_q_total n (release_node a b) i = omega arith
+  p_q_total n (atom x) i = omega arith
+  p_q_total n (both a b) i = omega arith
+  p_q_total n (either a b) i = omega arith
+  p_q_total n (next a) i = omega arith
+  p_q_total n (until a b) i = omega arith
+  p_q_total n (release a b) i = omega arith
 
   values_total : (n : ℕ) (x : Node) → total w (each (positions p) (λ i. p_clauses p n x i ++ q_clauses p n x i)) ≡ (p.bound + 1) * form_weight w x
   values_total n x = total_numbers w 0 (p.bound + 1) _ (form_weight w x) (p_q_total n x)

@@ -1,6 +1,7 @@
 -- What follows from the definitions of specs/.
 pub mod Numbers
 pub mod ShownBy
+pub mod VersionOne
 pub mod Check
 pub mod Calls
 pub mod ItemByItem

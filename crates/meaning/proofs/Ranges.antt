@@ -14,7 +14,7 @@ use Rattle.answers.specs.Limits.{variables_limit, inputs_limit, latches_limit, g
 use Rattle.clauses.specs.Clauses.{Clause, variable_of, literal_within, Within}
 use Rattle.answers.proofs.Tests.{both_true, all_of_append, all_of_map, all_of_if_at, first_true, second_true}
 use Rattle.clauses.proofs.Satisfaction.{variable_of_negated}
-use Rattle.meaning.specs.Problem.{Problem, Left, Node, W, latch_variable, gate_variable, latch, gate, constraint, node, constant, child, atom_node, both_node, either_node, next_node, until_node, release_node}
+use Rattle.meaning.specs.Problem.{Problem, Left, Node, W, latch_variable, gate_variable, latch, gate, constraint, node, constant, child, atom, both, either, next, until, release}
 use Rattle.meaning.specs.Proper.{Proper, LeftProper, NodeProper}
 use Rattle.meaning.specs.Runs.{odd}
 use Rattle.meaning.specs.Cnf.{true_literal, false_literal, circuit_variable, literal_at, node_variables, selector, E, P, Q, q_end, q_at, left_at, variables, positions, latch_at, next_at, truth_item, gate_clauses, gates_item, constraint_unit, constraints_item, reset_unit, resets_item, steps_item, closing_clauses, closing_item, selectors_item, p_clauses, q_clauses, e_clauses, node_clauses, nodes_item, formula_item, cnf_items, cnf}
@@ -78,12 +78,12 @@ module _ (p : Problem) (proper : Proper p) where
       go false e = he
 
   q_end_fits : (x : Node) → Fits (variables p) (q_end x)
-  q_end_fits (atom_node x) = false_fits
-  q_end_fits (both_node a b) = false_fits
-  q_end_fits (either_node a b) = false_fits
-  q_end_fits (next_node a) = false_fits
-  q_end_fits (until_node a b) = false_fits
-  q_end_fits (release_node a b) = true_fits
+  q_end_fits (atom x) = false_fits
+  q_end_fits (both a b) = false_fits
+  q_end_fits (either a b) = false_fits
+  q_end_fits (next a) = false_fits
+  q_end_fits (until a b) = false_fits
+  q_end_fits (release a b) = true_fits
 
   left_fits : (n : ℕ) (a : Left) (i : ℕ) → n < length p.nodes → LeftProper n a → Fits (variables p) (left_at p a i)
   left_fits n (constant true) i h ha = true_fits
@@ -96,7 +96,7 @@ module _ (p : Problem) (proper : Proper p) where
   latch_fits t i ht hi = circuit_fits t (latch_variable p i) ht (omega arith)
 
   next_fits : (t i : ℕ) → t ≤ p.bound → i < length p.latches → Fits (variables p) (next_at p t i)
-  next_fits t i ht hi = literal_fits t (latch p i).next_literal ht (proper.next_in_range i hi)
+  next_fits t i ht hi = literal_fits t (latch p i).next ht (proper.next_in_range i hi)
 
   truth_within : Within (variables p) truth_item
   truth_within = unit_within true_fits
@@ -155,14 +155,14 @@ module _ (p : Problem) (proper : Proper p) where
 
   module _ (n : ℕ) (hn : n < length p.nodes) where
     p_within : (x : Node) → NodeProper p n x → (i : ℕ) → i ≤ p.bound → Within (variables p) (p_clauses p n x i)
-    p_within (atom_node x) h i hi = equal_form_within (p_fits n i hn) (literal_fits i x hi h)
-    p_within (both_node a b) h i hi = and_form_within (p_fits n i hn) (p_fits a i (omega arith)) (p_fits b i (omega arith))
-    p_within (either_node a b) h i hi = or_form_within (p_fits n i hn) (p_fits a i (omega arith)) (p_fits b i (omega arith))
-    p_within (next_node a) h i hi = equal_form_within (p_fits n i hn) (p_fits a (i + 1) (omega arith))
-    p_within (until_node a b) h i hi =
+    p_within (atom x) h i hi = equal_form_within (p_fits n i hn) (literal_fits i x hi h)
+    p_within (both a b) h i hi = and_form_within (p_fits n i hn) (p_fits a i (omega arith)) (p_fits b i (omega arith))
+    p_within (either a b) h i hi = or_form_within (p_fits n i hn) (p_fits a i (omega arith)) (p_fits b i (omega arith))
+    p_within (next a) h i hi = equal_form_within (p_fits n i hn) (p_fits a (i + 1) (omega arith))
+    p_within (until a b) h i hi =
         until_form_within
         (p_fits n i hn) (left_fits n a i hn h.0) (p_fits b i (omega arith)) (p_fits n (i + 1) hn)
-    p_within (release_node a b) h i hi =
+    p_within (release a b) h i hi =
         release_form_within
         (p_fits n i hn) (left_fits n a i hn h.0) (p_fits b i (omega arith)) (p_fits n (i + 1) hn)
 
@@ -170,16 +170,16 @@ module _ (p : Problem) (proper : Proper p) where
     q_at_fits x i = q_fits n i hn (q_end_fits x)
 
     q_within : (x : Node) → NodeProper p n x → (i : ℕ) → Within (variables p) (q_clauses p n x i)
-    q_within (atom_node x) h i = equal_form_within (q_at_fits (atom_node x) i) (p_fits n i hn)
-    q_within (both_node a b) h i = equal_form_within (q_at_fits (both_node a b) i) (p_fits n i hn)
-    q_within (either_node a b) h i = equal_form_within (q_at_fits (either_node a b) i) (p_fits n i hn)
-    q_within (next_node a) h i = equal_form_within (q_at_fits (next_node a) i) (p_fits n i hn)
-    q_within (until_node a b) h i =
+    q_within (atom x) h i = equal_form_within (q_at_fits (atom x) i) (p_fits n i hn)
+    q_within (both a b) h i = equal_form_within (q_at_fits (both a b) i) (p_fits n i hn)
+    q_within (either a b) h i = equal_form_within (q_at_fits (either a b) i) (p_fits n i hn)
+    q_within (next a) h i = equal_form_within (q_at_fits (next a) i) (p_fits n i hn)
+    q_within (until a b) h i =
         until_form_within
-        (q_at_fits (until_node a b) i) (left_fits n a i hn h.0) (p_fits b i (omega arith)) (q_at_fits (until_node a b) (i + 1))
-    q_within (release_node a b) h i =
+        (q_at_fits (until a b) i) (left_fits n a i hn h.0) (p_fits b i (omega arith)) (q_at_fits (until a b) (i + 1))
+    q_within (release a b) h i =
         release_form_within
-        (q_at_fits (release_node a b) i) (left_fits n a i hn h.0) (p_fits b i (omega arith)) (q_at_fits (release_node a b) (i + 1))
+        (q_at_fits (release a b) i) (left_fits n a i hn h.0) (p_fits b i (omega arith)) (q_at_fits (release a b) (i + 1))
 
     values_within : Within (variables p) (each (positions p) (λ i. p_clauses p n (node p n) i ++ q_clauses p n (node p n) i))
     values_within =

@@ -3,7 +3,7 @@ use mathlib.Core.Path.{◌≡◌, refl}
 use mathlib.Core.List.{List, []}
 use Prim.Native.Nat.{ℕ, ◌+◌, ◌≤◌, ◌<◌}
 use lib.ListN.{length, get_or-eq_default}
-use Rattle.meaning.specs.Problem.{atom_node, W, latch, gate, constraint, node, Outline, read_latch, read_gate, read_constraint, read_node, header_words, problem_by, problem}
+use Rattle.meaning.specs.Problem.{atom, W, latch, gate, constraint, node, Outline, read_latch, read_gate, read_constraint, read_node, header_words, problem_by, problem}
 use Rattle.meaning.proofs.Numbers.{length_map_numbers, get_or_map_numbers}
 
 module _ (o : Outline) (ws : List ℕ) where
@@ -51,7 +51,7 @@ module _ (o : Outline) (ws : List ℕ) where
   node_by n l = get_or_map_numbers (read_node o ws) o.formula_nodes n _ l
 
   -- Past the end.
-  pub latch_past : (i : ℕ) → o.latches ≤ i → latch (problem_by o ws) i ≡ record { next_literal = 0; reset = 2 }
+  pub latch_past : (i : ℕ) → o.latches ≤ i → latch (problem_by o ws) i ≡ record { next = 0; reset = 2 }
   latch_past i l = get_or-eq_default (problem_by o ws).latches _ (rw latches_by l)
 
   pub gate_past : (j : ℕ) → o.gates ≤ j → gate (problem_by o ws) j ≡ record { left = 0; right = 0 }
@@ -60,7 +60,7 @@ module _ (o : Outline) (ws : List ℕ) where
   pub constraint_past : (c : ℕ) → o.constraints ≤ c → constraint (problem_by o ws) c ≡ 1
   constraint_past c l = get_or-eq_default (problem_by o ws).constraints _ (rw constraints_by l)
 
-  pub node_past : (n : ℕ) → o.formula_nodes ≤ n → node (problem_by o ws) n ≡ atom_node 0
+  pub node_past : (n : ℕ) → o.formula_nodes ≤ n → node (problem_by o ws) n ≡ atom 0
   node_past n l = get_or-eq_default (problem_by o ws).nodes _ (rw nodes_by l)
 
 -- "Version 1 files mean D = 0."

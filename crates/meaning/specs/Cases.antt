@@ -6,7 +6,7 @@ use Rattle.answers.specs.Answers.{answer, granted}
 use Rattle.clauses.specs.Refutations.{refutation_checks, area_checks, step_accepted}
 use Rattle.clauses.specs.Cases.{t_cnf, t_steps, t_other_steps}
 use Rattle.answers.specs.Limits.{inputs_limit, latches_limit, gates_limit, nodes_limit, bound_limit, constraints_limit}
-use Rattle.meaning.specs.Problem.{Problem, Node, atom_node, both_node, either_node, next_node, until_node, release_node, latch, node, header_words, problem_by, problem}
+use Rattle.meaning.specs.Problem.{Problem, Node, atom, both, either, next, until, release, latch, node, header_words, problem_by, problem}
 use Rattle.meaning.specs.Runs.{values, next_values, meets_constraints}
 use Rattle.meaning.specs.Formulas.{formula}
 use Rattle.meaning.specs.Witnesses.{run}
@@ -28,11 +28,11 @@ unfolding header_words problem_by problem variables
 t_has_variables = refl
 
 -- "Refutation 0 2 12 5 0 is accepted; 0 12 5 0 is refused (13 at 0)."
-pub t_is_refuted : judge_refutation 1 t_words t_steps 37 7 13 ≡ answer 0 0
+pub t_is_refuted : judge_refutation 1 t_words t_steps 38 7 13 ≡ answer 0 0
 unfolding header_words problem_by problem cnf cnf_words variables inputs_limit latches_limit gates_limit nodes_limit bound_limit constraints_limit judge_refutation refutation_checks area_checks step_accepted
 t_is_refuted = refl
 
-pub t_is_not_refuted : judge_refutation 1 t_words t_other_steps 37 7 13 ≡ answer 13 0
+pub t_is_not_refuted : judge_refutation 1 t_words t_other_steps 38 7 13 ≡ answer 13 0
 unfolding header_words problem_by problem cnf cnf_words variables inputs_limit latches_limit gates_limit nodes_limit bound_limit constraints_limit judge_refutation refutation_checks area_checks step_accepted
 t_is_not_refuted = refl
 
@@ -155,12 +155,12 @@ constrained_are_formed = refl
 
 -- "63 U or R nodes": the node is U or R; F and G are among them.
 abbrev pub UntilOrRelease : Node → Type 0
-UntilOrRelease (atom_node x) = ⊥
-UntilOrRelease (both_node a b) = ⊥
-UntilOrRelease (either_node a b) = ⊥
-UntilOrRelease (next_node a) = ⊥
-UntilOrRelease (until_node a b) = Unit
-UntilOrRelease (release_node a b) = Unit
+UntilOrRelease (atom x) = ⊥
+UntilOrRelease (both a b) = ⊥
+UntilOrRelease (either a b) = ⊥
+UntilOrRelease (next a) = ⊥
+UntilOrRelease (until a b) = Unit
+UntilOrRelease (release a b) = Unit
 
 -- "At all limits, with every reset fixed and 63 U or R nodes over one atom": such a problem's CNF has 437,012 words, and 64 more for each constraint, and
 -- no well-formed words with as many constraints have a larger one (`at_all_limits` and `largest_cnf` of proofs/AllLimits).
@@ -170,7 +170,7 @@ pub record AtAllLimits (p : Problem) : Type 0 where
   pub resets_fixed : (i : ℕ) → i < latches_limit → (latch p i).reset < 2
   pub gates_are : length p.gates ≡ gates_limit
   pub nodes_are : length p.nodes ≡ nodes_limit
-  pub one_atom : (x : ℕ) × (node p 0 ≡ atom_node x)
+  pub one_atom : (x : ℕ) × (node p 0 ≡ atom x)
   pub others : (n : ℕ) → 1 ≤ n → n < nodes_limit → UntilOrRelease (node p n)
   pub bound_is : p.bound ≡ bound_limit
 
@@ -182,10 +182,6 @@ limit_nodes =
     ++ each (numbers 0 (nodes_limit / 2)) (λ n. 6 ∷ n ∷ n ∷ [])
     ++ each (numbers (nodes_limit / 2) (nodes_limit / 2 - 1)) (λ n. 7 ∷ n ∷ n ∷ [])
 
--- "I, L, A, N, k", each at its limit.
-abbrev pub limit_header : List ℕ
-limit_header = inputs_limit ∷ latches_limit ∷ gates_limit ∷ nodes_limit ∷ bound_limit ∷ []
-
 -- A 0 for each word of a latch (next 0, reset 0: "every reset fixed") or of a gate.
 abbrev pub limit_zeros : ℕ
 limit_zeros = 2 * latches_limit + 2 * gates_limit
@@ -193,9 +189,4 @@ limit_zeros = 2 * latches_limit + 2 * gates_limit
 -- Their problem is at all limits (`limits_reached` of proofs/AllLimits); its numbers are `limits_counted`.
 unfoldable pub limit_words : List ℕ
 unfolding inputs_limit latches_limit gates_limit nodes_limit bound_limit
-limit_words = limit_header ++ (replicate limit_zeros 0 ++ limit_nodes)
-
--- The same in version 2, with as many constraints as there can be, each of them a 0 too: no CNF has more words (`largest_of_all` and `no_larger` there).
-unfoldable pub constrained_limit_words : List ℕ
-unfolding inputs_limit latches_limit gates_limit nodes_limit bound_limit constraints_limit
-constrained_limit_words = limit_header ++ (constraints_limit ∷ (replicate (limit_zeros + constraints_limit) 0 ++ limit_nodes))
+limit_words = inputs_limit ∷ latches_limit ∷ gates_limit ∷ nodes_limit ∷ bound_limit ∷ (replicate limit_zeros 0 ++ limit_nodes)

@@ -3,7 +3,7 @@ use Rattle.std.specs.Prelude.{Bool, true, false, cond, List, [], ◌∷◌, ◌+
 use Rattle.answers.specs.Lists.{numbers, each, joined}
 use Rattle.clauses.specs.Clauses.{Clause, negated}
 use Rattle.clauses.specs.CnfWords.{words_of}
-use Rattle.meaning.specs.Problem.{Problem, Left, Node, W, latch_variable, gate_variable, latch, gate, constraint, node, constant, child, atom_node, both_node, either_node, next_node, until_node, release_node}
+use Rattle.meaning.specs.Problem.{Problem, Left, Node, W, latch_variable, gate_variable, latch, gate, constraint, node, constant, child, atom, both, either, next, until, release}
 use Rattle.meaning.specs.Runs.{odd}
 
 -- ════════ Variables ════════
@@ -103,7 +103,7 @@ abbrev pub latch_at : Problem → ℕ → ℕ → ℤ
 latch_at p t i = circuit_variable p t (latch_variable p i)
 
 abbrev pub next_at : Problem → ℕ → ℕ → ℤ
-next_at p t i = literal_at p t (latch p i).next_literal
+next_at p t i = literal_at p t (latch p i).next
 
 abbrev pub gate_clauses : Problem → ℕ → ℕ → List Clause
 gate_clauses p t j =
@@ -156,35 +156,35 @@ left_at p (child c) i = P p c i
 
 -- "P(n,i) has the op's form over the children's P(i); an atom is x=a. Next takes P(child,i+1)."
 abbrev pub p_clauses : Problem → ℕ → Node → ℕ → List Clause
-p_clauses p n (atom_node x) i = equal_form (P p n i) (literal_at p i x)
-p_clauses p n (both_node a b) i = and_form (P p n i) (P p a i) (P p b i)
-p_clauses p n (either_node a b) i = or_form (P p n i) (P p a i) (P p b i)
-p_clauses p n (next_node a) i = equal_form (P p n i) (P p a (i + 1))
-p_clauses p n (until_node a b) i = until_form (P p n i) (left_at p a i) (P p b i) (P p n (i + 1))
-p_clauses p n (release_node a b) i = release_form (P p n i) (left_at p a i) (P p b i) (P p n (i + 1))
+p_clauses p n (atom x) i = equal_form (P p n i) (literal_at p i x)
+p_clauses p n (both a b) i = and_form (P p n i) (P p a i) (P p b i)
+p_clauses p n (either a b) i = or_form (P p n i) (P p a i) (P p b i)
+p_clauses p n (next a) i = equal_form (P p n i) (P p a (i + 1))
+p_clauses p n (until a b) i = until_form (P p n i) (left_at p a i) (P p b i) (P p n (i + 1))
+p_clauses p n (release a b) i = release_form (P p n i) (left_at p a i) (P p b i) (P p n (i + 1))
 
 -- "Q(n,k+1) is -1 for F and U, 1 for G and R"; ops 0 to 3 never read it.
 abbrev pub q_end : Node → ℤ
-q_end (atom_node x) = false_literal
-q_end (both_node a b) = false_literal
-q_end (either_node a b) = false_literal
-q_end (next_node a) = false_literal
-q_end (until_node a b) = false_literal
-q_end (release_node a b) = true_literal
+q_end (atom x) = false_literal
+q_end (both a b) = false_literal
+q_end (either a b) = false_literal
+q_end (next a) = false_literal
+q_end (until a b) = false_literal
+q_end (release a b) = true_literal
 
 abbrev pub q_at : Problem → ℕ → Node → ℕ → ℤ
 q_at p n x i = Q p n (q_end x) i
 
 -- "Q(n,i) = P(n,i) for ops 0 to 3; for the others it has the same form with y = Q(n,i+1)"
 abbrev pub q_clauses : Problem → ℕ → Node → ℕ → List Clause
-q_clauses p n (atom_node x) i = equal_form (q_at p n (atom_node x) i) (P p n i)
-q_clauses p n (both_node a b) i = equal_form (q_at p n (both_node a b) i) (P p n i)
-q_clauses p n (either_node a b) i = equal_form (q_at p n (either_node a b) i) (P p n i)
-q_clauses p n (next_node a) i = equal_form (q_at p n (next_node a) i) (P p n i)
-q_clauses p n (until_node a b) i =
-    until_form (q_at p n (until_node a b) i) (left_at p a i) (P p b i) (q_at p n (until_node a b) (i + 1))
-q_clauses p n (release_node a b) i =
-    release_form (q_at p n (release_node a b) i) (left_at p a i) (P p b i) (q_at p n (release_node a b) (i + 1))
+q_clauses p n (atom x) i = equal_form (q_at p n (atom x) i) (P p n i)
+q_clauses p n (both a b) i = equal_form (q_at p n (both a b) i) (P p n i)
+q_clauses p n (either a b) i = equal_form (q_at p n (either a b) i) (P p n i)
+q_clauses p n (next a) i = equal_form (q_at p n (next a) i) (P p n i)
+q_clauses p n (until a b) i =
+    until_form (q_at p n (until a b) i) (left_at p a i) (P p b i) (q_at p n (until a b) (i + 1))
+q_clauses p n (release a b) i =
+    release_form (q_at p n (release a b) i) (left_at p a i) (P p b i) (q_at p n (release a b) (i + 1))
 
 -- "for each l (-s(l) -E Q(l))(-s(l) E -Q(l))"
 abbrev pub e_clauses : Problem → ℕ → Node → ℕ → List Clause

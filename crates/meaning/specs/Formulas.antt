@@ -35,12 +35,12 @@ left_tree ts (child c) = get_or ts c (atom 0)
 
 -- A node's tree, over those of the earlier nodes.
 abbrev pub tree_of : List Formula → Node → Formula
-tree_of ts (Nodes.atom_node x) = atom x
-tree_of ts (Nodes.both_node a b) = both (get_or ts a (atom 0)) (get_or ts b (atom 0))
-tree_of ts (Nodes.either_node a b) = either (get_or ts a (atom 0)) (get_or ts b (atom 0))
-tree_of ts (Nodes.next_node a) = next (get_or ts a (atom 0))
-tree_of ts (Nodes.until_node a b) = until (left_tree ts a) (get_or ts b (atom 0))
-tree_of ts (Nodes.release_node a b) = release (left_tree ts a) (get_or ts b (atom 0))
+tree_of ts (Nodes.atom x) = atom x
+tree_of ts (Nodes.both a b) = both (get_or ts a (atom 0)) (get_or ts b (atom 0))
+tree_of ts (Nodes.either a b) = either (get_or ts a (atom 0)) (get_or ts b (atom 0))
+tree_of ts (Nodes.next a) = next (get_or ts a (atom 0))
+tree_of ts (Nodes.until a b) = until (left_tree ts a) (get_or ts b (atom 0))
+tree_of ts (Nodes.release a b) = release (left_tree ts a) (get_or ts b (atom 0))
 
 -- "Children are earlier node numbers": each node's tree follows those before it.
 abbrev pub trees_after : List Formula → List Node → List Formula

@@ -6,7 +6,7 @@ use Rattle.answers.specs.Lists.{numbers}
 
 -- "L pairs (next literal, reset)"
 pub record Latch : Type 0 where
-  pub next_literal : ℕ
+  pub next : ℕ
   pub reset : ℕ
 
 -- "A gate is the AND of two literals"
@@ -21,12 +21,12 @@ pub data Left : Type 0 where
 
 -- "Ops: 0 atom, 1 and, 2 or, 3 next, 4 F, 5 G, 6 a U b, 7 a R b": F is U and G is R with a constant on the left.
 pub data Node : Type 0 where
-  atom_node : ℕ → Node
-  both_node : ℕ → ℕ → Node
-  either_node : ℕ → ℕ → Node
-  next_node : ℕ → Node
-  until_node : Left → ℕ → Node
-  release_node : Left → ℕ → Node
+  atom : ℕ → Node
+  both : ℕ → ℕ → Node
+  either : ℕ → ℕ → Node
+  next : ℕ → Node
+  until : Left → ℕ → Node
+  release : Left → ℕ → Node
 
 pub record Problem : Type 0 where
   pub inputs : ℕ
@@ -50,7 +50,7 @@ gate_variable p j = p.inputs + length p.latches + j + 1
 -- The latch, gate, constraint or node of a number; past the end a free latch whose next value is false, a gate that is false, the literal
 -- true, the atom false.
 abbrev pub latch : Problem → ℕ → Latch
-latch p i = get_or p.latches i (record { next_literal = 0; reset = 2 })
+latch p i = get_or p.latches i (record { next = 0; reset = 2 })
 
 abbrev pub gate : Problem → ℕ → Gate
 gate p j = get_or p.gates j (record { left = 0; right = 0 })
@@ -59,7 +59,7 @@ abbrev pub constraint : Problem → ℕ → ℕ
 constraint p c = get_or p.constraints c 1
 
 abbrev pub node : Problem → ℕ → Node
-node p n = get_or p.nodes n (atom_node 0)
+node p n = get_or p.nodes n (atom 0)
 
 -- ════════ The words ════════
 
@@ -142,21 +142,21 @@ children = 0 ∷ 2 ∷ 2 ∷ 1 ∷ 1 ∷ 1 ∷ 2 ∷ 2 ∷ []
 -- The node of each op, over its words a and b.
 abbrev pub shapes : List (ℕ → ℕ → Node)
 shapes =
-    (λ a b. atom_node a)
-    ∷ (λ a b. both_node a b)
-    ∷ (λ a b. either_node a b)
-    ∷ (λ a b. next_node a)
-    ∷ (λ a b. until_node (constant true) a)
-    ∷ (λ a b. release_node (constant false) a)
-    ∷ (λ a b. until_node (child a) b)
-    ∷ (λ a b. release_node (child a) b)
+    (λ a b. atom a)
+    ∷ (λ a b. both a b)
+    ∷ (λ a b. either a b)
+    ∷ (λ a b. next a)
+    ∷ (λ a b. until (constant true) a)
+    ∷ (λ a b. release (constant false) a)
+    ∷ (λ a b. until (child a) b)
+    ∷ (λ a b. release (child a) b)
     ∷ []
 
 abbrev pub node_of : ℕ → ℕ → ℕ → Node
-node_of op a b = get_or shapes op (λ a b. atom_node 0) a b
+node_of op a b = get_or shapes op (λ a b. atom 0) a b
 
 abbrev pub read_latch : Outline → List ℕ → ℕ → Latch
-read_latch o ws i = record { next_literal = word ws (latch_place o i); reset = word ws (latch_place o i + 1) }
+read_latch o ws i = record { next = word ws (latch_place o i); reset = word ws (latch_place o i + 1) }
 
 abbrev pub read_gate : Outline → List ℕ → ℕ → Gate
 read_gate o ws j = record { left = word ws (gate_place o j); right = word ws (gate_place o j + 1) }

@@ -2,7 +2,7 @@
 -- well-formed words, so nobody has to believe them. Assumes nothing.
 use Rattle.std.specs.Prelude.{List, ◌≡◌, ℕ, zero, suc, ◌+◌, ◌*◌, ◌≤◌, ◌<◌, length}
 use Rattle.answers.specs.Limits.{inputs_limit, latches_limit, gates_limit, nodes_limit, bound_limit, constraints_limit}
-use Rattle.meaning.specs.Problem.{Problem, Left, Node, constant, child, atom_node, both_node, either_node, next_node, until_node, release_node, W, gate_variable, latch, gate, constraint, node, Outline, outline, header_words, word, latch_place, gate_place, constraint_place, node_place, words_in_all, children}
+use Rattle.meaning.specs.Problem.{Problem, Left, Node, constant, child, atom, both, either, next, until, release, W, gate_variable, latch, gate, constraint, node, Outline, outline, header_words, word, latch_place, gate_place, constraint_place, node_place, words_in_all, children}
 use Rattle.meaning.specs.Check.{largest_literal, gate_limit, largest_reset, children_of}
 
 -- ════════ The rules, of the words ════════
@@ -60,12 +60,12 @@ LeftProper n (child a) = a < n
 
 -- "Children are earlier node numbers"; an atom's literal is at most 2W + 1.
 abbrev pub NodeProper : Problem → ℕ → Node → Type 0
-NodeProper p n (atom_node x) = x ≤ 2 * W p + 1
-NodeProper p n (both_node a b) = (a < n) × (b < n)
-NodeProper p n (either_node a b) = (a < n) × (b < n)
-NodeProper p n (next_node a) = a < n
-NodeProper p n (until_node a b) = LeftProper n a × (b < n)
-NodeProper p n (release_node a b) = LeftProper n a × (b < n)
+NodeProper p n (atom x) = x ≤ 2 * W p + 1
+NodeProper p n (both a b) = (a < n) × (b < n)
+NodeProper p n (either a b) = (a < n) × (b < n)
+NodeProper p n (next a) = a < n
+NodeProper p n (until a b) = LeftProper n a × (b < n)
+NodeProper p n (release a b) = LeftProper n a × (b < n)
 
 -- What the theorems ask of a problem.
 pub record Proper (p : Problem) : Type 0 where
@@ -76,7 +76,7 @@ pub record Proper (p : Problem) : Type 0 where
   pub nodes_within : length p.nodes ≤ nodes_limit
   pub bound_within : p.bound ≤ bound_limit
   pub constraints_within : length p.constraints ≤ constraints_limit
-  pub next_in_range : (i : ℕ) → i < length p.latches → (latch p i).next_literal ≤ 2 * W p + 1
+  pub next_in_range : (i : ℕ) → i < length p.latches → (latch p i).next ≤ 2 * W p + 1
   pub reset_in_range : (i : ℕ) → i < length p.latches → (latch p i).reset ≤ largest_reset
   pub left_below : (j : ℕ) → j < length p.gates → (gate p j).left < 2 * gate_variable p j
   pub right_below : (j : ℕ) → j < length p.gates → (gate p j).right < 2 * gate_variable p j

@@ -37,7 +37,7 @@ values p x = with_gates p.gates (false ∷ (x.inputs ++ x.latches))
 
 -- The latches' next values.
 unfoldable pub next_values : Problem → Position → List Bool
-next_values p x = map (λ (c : Latch). literal_value (values p x) c.next_literal) p.latches
+next_values p x = map (λ (c : Latch). literal_value (values p x) c.next) p.latches
 
 -- "Reset is 0, 1, or 2 for free."
 abbrev pub meets_reset : ℕ → Bool → Bool

@@ -67,19 +67,19 @@ module _ (p : Problem) (r : Reading) (single : (l m : ℕ) → l < m → m ≤ p
 -- ════════ The end of a node ════════
 
 -- Of one node's end and second pass: its law by the shape, and its clauses' by what is chosen.
-module _ (p : Problem) (chosen q_true : ℕ → Bool) (e : Bool) where
-  pub end_by_shape : (s : Shape) → StartWithin s p → Chooses p chosen s → ((l : ℕ) → l ≤ p.bound → chosen l ≡ true → e ≡ q_true l)
-      → (e ≡ true → some_of chosen (positions p) ≡ true) → e ≡ e_value s q_true
+module _ (p : Problem) (chosen Q : ℕ → Bool) (e : Bool) where
+  pub end_by_shape : (s : Shape) → StartWithin s p → Chooses p chosen s → ((l : ℕ) → l ≤ p.bound → chosen l ≡ true → e ≡ Q l)
+      → (e ≡ true → some_of chosen (positions p) ≡ true) → e ≡ e_value s Q
   end_by_shape prefix w same at-chosen closed = false_if_not_true e (λ q.
       let c = some_of_witness chosen (positions p) (closed q) in
       not_both c.2 (same c.0 (omega (arith, (numbers_bounds 0 (p.bound + 1) c.1).1))))
   end_by_shape (lasso l) w same at-chosen closed = at-chosen l w (same l w ∙ eqb_self l)
 
-  pub end_at_chosen : (s : Shape) → Chooses p chosen s → e ≡ e_value s q_true → (l : ℕ) → l ≤ p.bound → chosen l ≡ true → e ≡ q_true l
+  pub end_at_chosen : (s : Shape) → Chooses p chosen s → e ≡ e_value s Q → (l : ℕ) → l ≤ p.bound → chosen l ≡ true → e ≡ Q l
   end_at_chosen prefix same law l h c = absurd (not_both c (same l h))
   end_at_chosen (lasso m) same law l h c = rw (eqb-true l m (sym (same l h) ∙ c)) law
 
-  pub end_closed : (s : Shape) → StartWithin s p → Chooses p chosen s → e ≡ e_value s q_true → e ≡ true
+  pub end_closed : (s : Shape) → StartWithin s p → Chooses p chosen s → e ≡ e_value s Q → e ≡ true
       → some_of chosen (positions p) ≡ true
   end_closed prefix w same law q = absurd (not_both q law)
   end_closed (lasso m) w same law q =

@@ -96,12 +96,12 @@ module _ (p : Problem) (a : Assignment) where
       each_below_is a _ (length p.latches) (λ i l. reset_unit_is (latch p i).reset (circuit_reads p a 0 (latch_variable p i)))
 
   next_reads : Proper p → (t i : ℕ) → i < length p.latches
-      → Reads a (next_at p t i) (literal_value (row p (reading p a) t) (latch p i).next_literal)
-  next_reads proper t i l = literal_at_reads p a t (latch p i).next_literal (proper.next_in_range i l)
+      → Reads a (next_at p t i) (literal_value (row p (reading p a) t) (latch p i).next)
+  next_reads proper t i l = literal_at_reads p a t (latch p i).next (proper.next_in_range i l)
 
   -- "4. t = 0..k-1, each latch: latch at t+1 = next at t."
   pub steps_item_is : Proper p → Satisfies a (steps_item p) ↔ ((t i : ℕ) → t < p.bound → i < length p.latches
-      → (reading p a).circuit (t + 1) (latch_variable p i) ≡ literal_value (row p (reading p a) t) (latch p i).next_literal)
+      → (reading p a).circuit (t + 1) (latch_variable p i) ≡ literal_value (row p (reading p a) t) (latch p i).next)
   steps_item_is proper =
       Iff.trans (each_below_is a _ p.bound (λ t h. each_below_is a _ (length p.latches) (λ i l.
       equal_form_is (circuit_reads p a (t + 1) (latch_variable p i)) (next_reads proper t i l)))) numbers_first
@@ -109,7 +109,7 @@ module _ (p : Problem) (a : Assignment) where
   -- "5. Each l, each latch x with next a at k: (-s -x a)(-s x -a)."
   pub closing_item_is : Proper p → Satisfies a (closing_item p)
       ↔ ((l i : ℕ) → l ≤ p.bound → i < length p.latches → (reading p a).chosen l ≡ true
-      → (reading p a).circuit l (latch_variable p i) ≡ literal_value (row p (reading p a) p.bound) (latch p i).next_literal)
+      → (reading p a).circuit l (latch_variable p i) ≡ literal_value (row p (reading p a) p.bound) (latch p i).next)
   closing_item_is proper =
       Iff.trans (each_up_to_is a _ p.bound (λ l h. each_below_is a _ (length p.latches) (λ i b.
       guarded_form_is (selector_reads p a l) (circuit_reads p a l (latch_variable p i)) (next_reads proper p.bound i b)))) numbers_first
@@ -123,5 +123,5 @@ module _ (p : Problem) (a : Assignment) where
       (λ s l m b c. e.0 s l (omega arith) m b c, λ h. e.1 (λ l b m c d. h l m c d))
 
   -- "8. (P(N-1,0))."
-  pub formula_item_is : Satisfies a (formula_item p) ↔ ((reading p a).p_true (length p.nodes - 1) 0 ≡ true)
+  pub formula_item_is : Satisfies a (formula_item p) ↔ ((reading p a).P (length p.nodes - 1) 0 ≡ true)
   formula_item_is = unit_is (p_reads p a (length p.nodes - 1) 0 zero-le)

@@ -57,11 +57,11 @@ module _ (p : Problem) (r : Reading) where
   length_chosen_values : length (chosen_values p r) ≡ steps p
   length_chosen_values = length_map_numbers r.chosen 0 (steps p)
 
-  length_p_values : (n : ℕ) → length (map (r.p_true n) (positions p)) ≡ steps p
-  length_p_values n = length_map_numbers (r.p_true n) 0 (steps p)
+  length_p_values : (n : ℕ) → length (map (r.P n) (positions p)) ≡ steps p
+  length_p_values n = length_map_numbers (r.P n) 0 (steps p)
 
-  length_q_values : (n : ℕ) → length (map (r.q_true n) (positions p)) ≡ steps p
-  length_q_values n = length_map_numbers (r.q_true n) 0 (steps p)
+  length_q_values : (n : ℕ) → length (map (r.Q n) (positions p)) ≡ steps p
+  length_q_values n = length_map_numbers (r.Q n) 0 (steps p)
 
   length_node_values : (n : ℕ) → length (node_values p r n) ≡ node_width p
   length_node_values n = rw (length-append, length-append, length_p_values n, length_q_values n) (omega arith)
@@ -117,16 +117,16 @@ module _ (p : Problem) (r : Reading) where
         get_or_each (node_values p r) (node_width p) (length_node_values p r) (length p.nodes) n m false l h,
       )
 
-  layout_p : (n i : ℕ) → n < length p.nodes → i ≤ p.bound → (reading p (layout p r)).p_true n i ≡ r.p_true n i
+  layout_p : (n i : ℕ) → n < length p.nodes → i ≤ p.bound → (reading p (layout p r)).P n i ≡ r.P n i
   layout_p n i l h =
       let below : i < steps p = omega arith in
       rw (
         layout_node n i l (omega arith),
         get_or_first _ _ _ i false (length_p_values p r n) below,
-        get_or_map_numbers (r.p_true n) (steps p) i false below,
+        get_or_map_numbers (r.P n) (steps p) i false below,
       )
 
-  layout_q : (n i : ℕ) → n < length p.nodes → i ≤ p.bound → (reading p (layout p r)).q_true n i ≡ r.q_true n i
+  layout_q : (n i : ℕ) → n < length p.nodes → i ≤ p.bound → (reading p (layout p r)).Q n i ≡ r.Q n i
   layout_q n i l h =
       let below : i < steps p = omega arith in
       rw (
@@ -134,10 +134,10 @@ module _ (p : Problem) (r : Reading) where
         layout_node n (steps p + i) l (omega arith),
         get_or_second _ _ _ i false (length_p_values p r n),
         get_or_first _ _ _ i false (length_q_values p r n) below,
-        get_or_map_numbers (r.q_true n) (steps p) i false below,
+        get_or_map_numbers (r.Q n) (steps p) i false below,
       )
 
-  layout_e : (n : ℕ) → n < length p.nodes → (reading p (layout p r)).e_true n ≡ r.e_true n
+  layout_e : (n : ℕ) → n < length p.nodes → (reading p (layout p r)).E n ≡ r.E n
   layout_e n l =
       let place : 2 * steps p ≡ steps p + (steps p + 0) = omega arith in
       rw (
@@ -152,9 +152,9 @@ module _ (p : Problem) (r : Reading) where
     truth = layout_truth;
     circuit = layout_circuit;
     chosen = layout_chosen;
-    p_true = layout_p;
-    q_true = layout_q;
-    e_true = layout_e;
+    P = layout_p;
+    Q = layout_q;
+    E = layout_e;
   }
 
 -- ════════ Readings that agree have one layout ════════
@@ -169,9 +169,9 @@ module _ {p : Problem} {r s : Reading} (same : Agree p r s) where
   same_node_values : (n : ℕ) → n < length p.nodes → node_values p r n ≡ node_values p s n
   same_node_values n l =
       rw (
-        map_numbers_same (r.p_true n) (s.p_true n) 0 (steps p) (λ i m. rw zero-add (same.p_true n i l (omega arith))),
-        map_numbers_same (r.q_true n) (s.q_true n) 0 (steps p) (λ i m. rw zero-add (same.q_true n i l (omega arith))),
-        same.e_true n l,
+        map_numbers_same (r.P n) (s.P n) 0 (steps p) (λ i m. rw zero-add (same.P n i l (omega arith))),
+        map_numbers_same (r.Q n) (s.Q n) 0 (steps p) (λ i m. rw zero-add (same.Q n i l (omega arith))),
+        same.E n l,
       )
 
   pub same_layout : layout p r ≡ layout p s
@@ -195,13 +195,13 @@ nodes_place p = chosen_place p + steps p
 
 -- The values of node n, of which the first stands at x.
 module _ (p : Problem) (a : Assignment) (n x : ℕ) (first : node_variables p n ≡ suc x) (fits : x + node_width p ≤ length a) where
-  cut_p : map ((reading p a).p_true n) (positions p) ≡ cut a x (steps p)
-  cut_p = cut_map a ((reading p a).p_true n) false x 0 (steps p) (omega arith) (λ i m. rw (zero-add, first, suc-add))
+  cut_p : map ((reading p a).P n) (positions p) ≡ cut a x (steps p)
+  cut_p = cut_map a ((reading p a).P n) false x 0 (steps p) (omega arith) (λ i m. rw (zero-add, first, suc-add))
 
-  cut_q : map ((reading p a).q_true n) (positions p) ≡ cut a (x + steps p) (steps p)
-  cut_q = cut_map a ((reading p a).q_true n) false (x + steps p) 0 (steps p) (omega arith) (λ i m. rw (zero-add, first, suc-add x, suc-add))
+  cut_q : map ((reading p a).Q n) (positions p) ≡ cut a (x + steps p) (steps p)
+  cut_q = cut_map a ((reading p a).Q n) false (x + steps p) 0 (steps p) (omega arith) (λ i m. rw (zero-add, first, suc-add x, suc-add))
 
-  cut_e : (reading p a).e_true n ∷ [] ≡ cut a (x + steps p + steps p) 1
+  cut_e : (reading p a).E n ∷ [] ≡ cut a (x + steps p + steps p) 1
   cut_e =
       let place : node_variables p n + 2 * steps p ≡ suc (x + steps p + steps p) = omega arith in
       rw place (cut_one a false (x + steps p + steps p) (omega arith))

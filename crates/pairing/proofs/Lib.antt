@@ -30,6 +30,5 @@ pub mod AtOrBelow
 pub mod Refutable
 pub mod ListedWitnesses
 pub mod FirstWitness
-pub mod EveryTick
 pub mod Stuck
 pub mod Thirteen

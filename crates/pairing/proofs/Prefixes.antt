@@ -144,7 +144,7 @@ pub g_never_of_run : (p : Problem) (bs : List ℕ) (g : Formula) (i : ℕ) → p
 g_never_of_run p bs = g_never_on_prefix p.bound (rows p bs) (values_zero_false p (position p bs))
 
 -- A problem whose formula is G has no prefix as a witness.
-pub g_never_shown : (p : Problem) → Proper p → (a : ℕ) → node p (length p.nodes - 1) ≡ Nodes.release_node (constant false) a
+pub g_never_shown : (p : Problem) → Proper p → (a : ℕ) → node p (length p.nodes - 1) ≡ Nodes.release (constant false) a
     → (bs : List ℕ) → Witness p bs → shape bs ≡ prefix → ⊥
 g_never_shown p proper a is-G bs w is-prefix =
     let some = proper.nodes_some in

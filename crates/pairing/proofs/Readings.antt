@@ -32,7 +32,7 @@ module _ (p : Problem) (a : Assignment) where
   pub selector_reads : (l : ℕ) → Reads a (selector p l) ((reading p a).chosen l)
   selector_reads l = variable_reads a _ (omega arith)
 
-  pub e_reads : (n : ℕ) → Reads a (Cnf.E p n) ((reading p a).e_true n)
+  pub e_reads : (n : ℕ) → Reads a (Cnf.E p n) ((reading p a).E n)
   e_reads n = variable_reads a _ (omega arith)
 
 -- ════════ Circuit literals ════════
@@ -49,17 +49,17 @@ module _ (p : Problem) (a : Assignment) where
 -- ════════ Nodes ════════
 
 module _ (p : Problem) (a : Assignment) where
-  pub p_reads : (n i : ℕ) → i ≤ p.bound → Reads a (Cnf.P p n i) ((reading p a).p_true n i)
+  pub p_reads : (n i : ℕ) → i ≤ p.bound → Reads a (Cnf.P p n i) ((reading p a).P n i)
   p_reads n i h = rw (le-leb i p.bound h) (variable_reads a _ (omega arith))
 
-  pub p_next_reads : (n i : ℕ) → Reads a (Cnf.P p n (i + 1)) (at_next p.bound ((reading p a).p_true n) ((reading p a).e_true n) i)
+  pub p_next_reads : (n i : ℕ) → Reads a (Cnf.P p n (i + 1)) (at_next p.bound ((reading p a).P n) ((reading p a).E n) i)
   p_next_reads n i = cond_reads (leb (i + 1) p.bound) (variable_reads a _ (omega arith)) (e_reads p a n)
 
-  pub q_reads : (n : ℕ) (end : ℤ) (i : ℕ) → i ≤ p.bound → Reads a (Cnf.Q p n end i) ((reading p a).q_true n i)
+  pub q_reads : (n : ℕ) (end : ℤ) (i : ℕ) → i ≤ p.bound → Reads a (Cnf.Q p n end i) ((reading p a).Q n i)
   q_reads n end i h = rw (le-leb i p.bound h) (variable_reads a _ (omega arith))
 
   pub q_next_reads : (n : ℕ) {end : ℤ} {b : Bool} (i : ℕ) → Reads a end b
-      → Reads a (Cnf.Q p n end (i + 1)) (at_next p.bound ((reading p a).q_true n) b i)
+      → Reads a (Cnf.Q p n end (i + 1)) (at_next p.bound ((reading p a).Q n) b i)
   q_next_reads n i e = cond_reads (leb (i + 1) p.bound) (variable_reads a _ (omega arith)) e
 
 -- ════════ Constants ════════
@@ -75,7 +75,7 @@ module _ (a : Assignment) (truth : literal_true a true_literal ≡ true) where
   pub variable_0_false : (p : Problem) (t : ℕ) → (reading p a).circuit t 0 ≡ false
   variable_0_false p t = false_reads.value
 
-  pub left_reads : (p : Problem) (c : Left) (i : ℕ) → i ≤ p.bound → Reads a (left_at p c i) (left_value (reading p a).p_true c i)
+  pub left_reads : (p : Problem) (c : Left) (i : ℕ) → i ≤ p.bound → Reads a (left_at p c i) (left_value (reading p a).P c i)
   left_reads p (constant true) i h = true_reads
   left_reads p (constant false) i h = false_reads
   left_reads p (child c) i h = p_reads p a c i h

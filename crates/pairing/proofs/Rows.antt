@@ -23,11 +23,11 @@ use Rattle.pairing.proofs.Bytes.{bytes_length, bytes_latches, bytes_inputs}
 
 -- A latch's next value by a row is that of its next literal there.
 pub next_by_row : (p : Problem) (row : List Bool) (i : ℕ) → i < length p.latches
-    → get_or (map (λ (c : Latch). literal_value row c.next_literal) p.latches) i false ≡ literal_value row (latch p i).next_literal
-next_by_row p row i h = get_or_map_within (λ (c : Latch). literal_value row c.next_literal) p.latches i _ false h
+    → get_or (map (λ (c : Latch). literal_value row c.next) p.latches) i false ≡ literal_value row (latch p i).next
+next_by_row p row i h = get_or_map_within (λ (c : Latch). literal_value row c.next) p.latches i _ false h
 
 pub next_value : (p : Problem) (x : Position) (i : ℕ) → i < length p.latches
-    → get_or (next_values p x) i false ≡ literal_value (values p x) (latch p i).next_literal
+    → get_or (next_values p x) i false ≡ literal_value (values p x) (latch p i).next
 unfolding next_values
 next_value p x i h = next_by_row p (values p x) i h
 
@@ -40,7 +40,7 @@ module _ (p : Problem) (r : Reading) (c : Proper p)
     (false-law : (t : ℕ) → t ≤ p.bound → r.circuit t 0 ≡ false)
     (gate_law : (t j : ℕ) → t ≤ p.bound → j < length p.gates → r.circuit t (gate_variable p j) ≡ gate_value (row p r t) (gate p j))
     (step_law : (t i : ℕ) → t < p.bound → i < length p.latches
-    → r.circuit (t + 1) (latch_variable p i) ≡ literal_value (row p r t) (latch p i).next_literal) where
+    → r.circuit (t + 1) (latch_variable p i) ≡ literal_value (row p r t) (latch p i).next) where
   -- The row at t is that of the bytes where the latches at t are.
   row_from_latches : (t : ℕ) → t ≤ p.bound
       → ((i : ℕ) → i < length p.latches → r.circuit t (latch_variable p i) ≡ get_or (position p (bytes_of_reading p r) t).latches i false)
@@ -62,7 +62,7 @@ module _ (p : Problem) (r : Reading) (c : Proper p)
   rows_of_model (suc t) h =
       row_from_latches (suc t) h (λ i q.
       rw (← add-one t) (step_law t i h q)
-      ∙ ap (λ (vs : List Bool). literal_value vs (latch p i).next_literal) (rows_of_model t (omega arith))
+      ∙ ap (λ (vs : List Bool). literal_value vs (latch p i).next) (rows_of_model t (omega arith))
       ∙ sym (rw position_next (next_value p _ i q)))
 
 -- ════════ The rows of a witness ════════
@@ -102,7 +102,7 @@ module _ (p : Problem) (bs : List ℕ) (right : length bs ≡ witness_length p) 
       (same t (gate_variable p j) h (omega arith) ∙ values_gate p _ (length_inputs t h) (length_latches p bs right t h) c j q)
 
   pub rows_step_law : (t i : ℕ) → t < p.bound → i < length p.latches
-      → r.circuit (t + 1) (latch_variable p i) ≡ literal_value (row p r t) (latch p i).next_literal
+      → r.circuit (t + 1) (latch_variable p i) ≡ literal_value (row p r t) (latch p i).next
   rows_step_law t i h q =
       let here : t ≤ p.bound = omega arith in
       rw (add-one t, row_of_rows)
@@ -117,7 +117,7 @@ module _ (p : Problem) (bs : List ℕ) (right : length bs ≡ witness_length p) 
   rows_reset_law starts i q = rw rows_first_latches (starts i q)
 
   pub rows_closing_law : (l i : ℕ) → l ≤ p.bound → i < length p.latches → Closes p bs l
-      → r.circuit l (latch_variable p i) ≡ literal_value (row p r p.bound) (latch p i).next_literal
+      → r.circuit l (latch_variable p i) ≡ literal_value (row p r p.bound) (latch p i).next
   rows_closing_law l i h q closes =
       let end : p.bound ≤ p.bound = omega arith in
       rw row_of_rows

@@ -6,7 +6,7 @@ use mathlib.Core.List.{List}
 use Prim.Native.Nat.{ℕ, ◌-◌, ◌≤◌, ◌<◌, zero-le}
 use native.Mathlib.Omega.{arith}
 use lib.ListN.{length}
-use Rattle.meaning.specs.Problem.{Problem, Node, node, atom_node, both_node, either_node, next_node, until_node, release_node}
+use Rattle.meaning.specs.Problem.{Problem, Node, node, atom, both, either, next, until, release}
 use Rattle.meaning.specs.Formulas.{formula}
 use Rattle.meaning.specs.Bounded.{Shape}
 use Rattle.meaning.specs.LassoValue.{bounded_value}
@@ -15,40 +15,40 @@ use Rattle.pairing.proofs.NextValues.{at_next_same}
 use Rattle.pairing.proofs.NodeValues.{StartWithin, ZeroFalse, SameAtom, p_of, q_of, e_of, op_same, e_same, node_laws, node_laws_determine}
 use Rattle.pairing.proofs.Trees.{formula_is}
 
-module _ {p : Problem} (children : ChildrenEarlier p) (rows rows' : ℕ → List Bool) {p_true q_true P' Q' : ℕ → ℕ → Bool} {e_true E' : ℕ → Bool}
+module _ {p : Problem} (children : ChildrenEarlier p) (rows rows' : ℕ → List Bool) {P Q P' Q' : ℕ → ℕ → Bool} {E E' : ℕ → Bool}
     (same-atoms : (n i : ℕ) → n < length p.nodes → i ≤ p.bound → SameAtom rows rows' (node p n) i)
-    (same-P : (n i : ℕ) → n < length p.nodes → i ≤ p.bound → p_true n i ≡ P' n i)
-    (same-Q : (n i : ℕ) → n < length p.nodes → i ≤ p.bound → q_true n i ≡ Q' n i)
-    (same-E : (n : ℕ) → n < length p.nodes → e_true n ≡ E' n) where
+    (same-P : (n i : ℕ) → n < length p.nodes → i ≤ p.bound → P n i ≡ P' n i)
+    (same-Q : (n i : ℕ) → n < length p.nodes → i ≤ p.bound → Q n i ≡ Q' n i)
+    (same-E : (n : ℕ) → n < length p.nodes → E n ≡ E' n) where
   -- The op's value, with next values that are the same.
   op_at_next : (n i : ℕ) → n < length p.nodes → i ≤ p.bound → (f g : ℕ → Bool) (e e' : Bool)
       → ((j : ℕ) → j ≤ p.bound → f j ≡ g j) → e ≡ e'
-      → op_value p.bound rows p_true e_true (node p n) i (at_next p.bound f e i) ≡ op_value p.bound rows' P' E' (node p n) i (at_next p.bound g e' i)
+      → op_value p.bound rows P E (node p n) i (at_next p.bound f e i) ≡ op_value p.bound rows' P' E' (node p n) i (at_next p.bound g e' i)
   op_at_next n i l h f g e e' same q =
-      op_same p.bound rows rows' p_true P' e_true E' n (λ m j r. same-P m j (omega arith)) (λ m r. same-E m (omega arith))
+      op_same p.bound rows rows' P P' E E' n (λ m j r. same-P m j (omega arith)) (λ m r. same-E m (omega arith))
       (node p n) (children.earlier n l) i h (same-atoms n i l h) _
       ∙ ap (op_value p.bound rows' P' E' (node p n) i) (at_next_same p.bound f g e e' same q i)
 
   q_same : (n i : ℕ) → n < length p.nodes → i ≤ p.bound → (x : Node)
-      → ((e : Bool) → op_value p.bound rows p_true e_true x i (at_next p.bound (q_true n) e i) ≡ op_value p.bound rows' P' E' x i (at_next p.bound (Q' n) e i))
-      → q_value p.bound rows p_true e_true (q_true n) x n i ≡ q_value p.bound rows' P' E' (Q' n) x n i
-  q_same n i l h (atom_node x) op = same-P n i l h
-  q_same n i l h (both_node a b) op = same-P n i l h
-  q_same n i l h (either_node a b) op = same-P n i l h
-  q_same n i l h (next_node a) op = same-P n i l h
-  q_same n i l h (until_node a b) op = op false
-  q_same n i l h (release_node a b) op = op true
+      → ((e : Bool) → op_value p.bound rows P E x i (at_next p.bound (Q n) e i) ≡ op_value p.bound rows' P' E' x i (at_next p.bound (Q' n) e i))
+      → q_value p.bound rows P E (Q n) x n i ≡ q_value p.bound rows' P' E' (Q' n) x n i
+  q_same n i l h (atom x) op = same-P n i l h
+  q_same n i l h (both a b) op = same-P n i l h
+  q_same n i l h (either a b) op = same-P n i l h
+  q_same n i l h (next a) op = same-P n i l h
+  q_same n i l h (until a b) op = op false
+  q_same n i l h (release a b) op = op true
 
   -- Tables that are the same there satisfy the same laws.
-  pub node_laws_same : {s : Shape} → StartWithin s p → NodeLaws p s rows p_true q_true e_true → NodeLaws p s rows' P' Q' E'
+  pub node_laws_same : {s : Shape} → StartWithin s p → NodeLaws p s rows P Q E → NodeLaws p s rows' P' Q' E'
   node_laws_same {s} w laws = record {
     p_law = λ n i l h.
         sym (same-P n i l h) ∙ laws.p_law n i l h
-        ∙ op_at_next n i l h (p_true n) (P' n) (e_true n) (E' n) (λ j r. same-P n j l r) (same-E n l);
+        ∙ op_at_next n i l h (P n) (P' n) (E n) (E' n) (λ j r. same-P n j l r) (same-E n l);
     q_law = λ n i l h.
         sym (same-Q n i l h) ∙ laws.q_law n i l h
-        ∙ q_same n i l h (node p n) (λ e. op_at_next n i l h (q_true n) (Q' n) e e (λ j r. same-Q n j l r) refl);
-    e_law = λ n l. sym (same-E n l) ∙ laws.e_law n l ∙ e_same p s w (q_true n) (Q' n) (λ j r. same-Q n j l r);
+        ∙ q_same n i l h (node p n) (λ e. op_at_next n i l h (Q n) (Q' n) e e (λ j r. same-Q n j l r) refl);
+    e_law = λ n l. sym (same-E n l) ∙ laws.e_law n l ∙ e_same p s w (Q n) (Q' n) (λ j r. same-Q n j l r);
   }
 
 -- So the formula has the same value over rows that give the literals of atoms the same values up to k.

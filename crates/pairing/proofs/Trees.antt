@@ -20,12 +20,12 @@ tree p n = get_or (trees_after [] p.nodes) n (atom 0)
 
 -- A proper node's children are earlier.
 earlier_if_proper : (p : Problem) (n : ℕ) (x : Node) → NodeProper p n x → Earlier n x
-earlier_if_proper p n (Nodes.atom_node x) l = tt
-earlier_if_proper p n (Nodes.both_node a b) l = l
-earlier_if_proper p n (Nodes.either_node a b) l = l
-earlier_if_proper p n (Nodes.next_node a) l = l
-earlier_if_proper p n (Nodes.until_node a b) l = l
-earlier_if_proper p n (Nodes.release_node a b) l = l
+earlier_if_proper p n (Nodes.atom x) l = tt
+earlier_if_proper p n (Nodes.both a b) l = l
+earlier_if_proper p n (Nodes.either a b) l = l
+earlier_if_proper p n (Nodes.next a) l = l
+earlier_if_proper p n (Nodes.until a b) l = l
+earlier_if_proper p n (Nodes.release a b) l = l
 
 pub children_earlier : {p : Problem} → Proper p → ChildrenEarlier p
 children_earlier {p} proper = record { earlier = λ n l. earlier_if_proper p n (node p n) (proper.nodes_proper n l) }
@@ -49,18 +49,18 @@ module _ (n : ℕ) (ts us : List Formula) (same : SameBelow n ts us) where
   left_tree_same (child c) l = same c l
 
   tree_of_same : (x : Node) → Earlier n x → tree_of ts x ≡ tree_of us x
-  tree_of_same (Nodes.atom_node x) l = refl
-  tree_of_same (Nodes.both_node a b) l = rw (same a l.0, same b l.1)
-  tree_of_same (Nodes.either_node a b) l = rw (same a l.0, same b l.1)
-  tree_of_same (Nodes.next_node a) l = rw (same a l)
-  tree_of_same (Nodes.until_node a b) l = rw (left_tree_same a l.0, same b l.1)
-  tree_of_same (Nodes.release_node a b) l = rw (left_tree_same a l.0, same b l.1)
+  tree_of_same (Nodes.atom x) l = refl
+  tree_of_same (Nodes.both a b) l = rw (same a l.0, same b l.1)
+  tree_of_same (Nodes.either a b) l = rw (same a l.0, same b l.1)
+  tree_of_same (Nodes.next a) l = rw (same a l)
+  tree_of_same (Nodes.until a b) l = rw (left_tree_same a l.0, same b l.1)
+  tree_of_same (Nodes.release a b) l = rw (left_tree_same a l.0, same b l.1)
 
 -- ════════ Trees unfold ════════
 
 -- Of nodes that follow so many trees, the one at j has number n.
 unfolds_after : (ts : List Formula) (ns : List Node) (j n : ℕ) → length ts + j ≡ n → j < length ns
-    → Earlier n (get_or ns j (Nodes.atom_node 0)) → get_or (trees_after ts ns) n (atom 0) ≡ tree_of (trees_after ts ns) (get_or ns j (Nodes.atom_node 0))
+    → Earlier n (get_or ns j (Nodes.atom 0)) → get_or (trees_after ts ns) n (atom 0) ≡ tree_of (trees_after ts ns) (get_or ns j (Nodes.atom 0))
 unfolds_after ts [] j n e l r = absurd (not-suc-le-zero l)
 unfolds_after ts (x ∷ ns) zero n e l r =
     let us : List Formula = ts ++ (tree_of ts x ∷ []) in

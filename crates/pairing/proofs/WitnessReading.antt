@@ -37,9 +37,9 @@ witness_reading p bs = record {
   truth = true;
   circuit = λ t v. get_or (rows p bs t) v false;
   chosen = chosen_of (shape bs);
-  p_true = p_of p (shape bs) (rows p bs);
-  q_true = q_of p (shape bs) (rows p bs);
-  e_true = e_of p (shape bs) (rows p bs);
+  P = p_of p (shape bs) (rows p bs);
+  Q = q_of p (shape bs) (rows p bs);
+  E = e_of p (shape bs) (rows p bs);
 }
 
 tables_of_rows : {p : Problem} → Proper p → (bs : List ℕ) → byte bs 0 ≤ p.bound + 1
@@ -60,19 +60,19 @@ module _ (p : Problem) (proper : Proper p) (bs : List ℕ) (w : Witness p bs) (r
   same_circuit t zero h l = variable_0 t ∙ sym (values_zero_false p (position p bs) t)
   same_circuit t (suc v) h l = same.circuit t v h l
 
-  nodes_keep : NodeLaws p (shape bs) (row p r) r.p_true r.q_true r.e_true
+  nodes_keep : NodeLaws p (shape bs) (row p r) r.P r.Q r.E
   nodes_keep =
       node_laws_same (children_earlier proper) (rows p bs) (row p r)
       (λ n t l h x e. ap (λ (vs : List Bool). literal_value vs x) (sym (row_of_rows p bs w.length_right r same_circuit t h)))
-      (λ n i l h. sym (same.p_true n i l h)) (λ n i l h. sym (same.q_true n i l h)) (λ n l. sym (same.e_true n l))
+      (λ n i l h. sym (same.P n i l h)) (λ n i l h. sym (same.Q n i l h)) (λ n l. sym (same.E n l))
       (start_within p (byte bs 0) w.start_in_range) (tables_of_rows proper bs w.start_in_range)
 
-  last_true : r.p_true (length p.nodes - 1) 0 ≡ true
+  last_true : r.P (length p.nodes - 1) 0 ≡ true
   last_true =
       let some : 1 ≤ length p.nodes = proper.nodes_some in
       let value : bounded_value (shape bs) p.bound (rows p bs) (formula p) 0 ≡ true =
       value_if_shows p bs (shape bs) (start_within p (byte bs 0) w.start_in_range) w.shows in
-      same.p_true (length p.nodes - 1) 0 (omega arith) zero-le ∙ (rw (formula_is p) at value)
+      same.P (length p.nodes - 1) 0 (omega arith) zero-le ∙ (rw (formula_is p) at value)
 
   pub witness_keeps_laws : ModelLaws p r
   witness_keeps_laws =
@@ -90,8 +90,8 @@ module _ (p : Problem) (proper : Proper p) (bs : List ℕ) (w : Witness p bs) (r
         single_law = λ l m h q. rw (same.chosen l (omega arith), same.chosen m q) (chosen_once (shape bs) l m h);
         p_law = laws.p_law;
         q_law = laws.q_law;
-        e_chosen_law = λ n l h. end_at_chosen p r.chosen (r.q_true n) (r.e_true n) (shape bs) same.chosen (laws.e_law n h) l;
-        e_closed_law = λ n h. end_closed p r.chosen (r.q_true n) (r.e_true n) (shape bs) start same.chosen (laws.e_law n h);
+        e_chosen_law = λ n l h. end_at_chosen p r.chosen (r.Q n) (r.E n) (shape bs) same.chosen (laws.e_law n h) l;
+        e_closed_law = λ n h. end_closed p r.chosen (r.Q n) (r.E n) (shape bs) start same.chosen (laws.e_law n h);
         formula_law = last_true;
       }
 
@@ -104,7 +104,7 @@ module _ (p : Problem) (proper : Proper p) (r : Reading) (laws : ModelLaws p r) 
   circuit_by_rows : (t v : ℕ) → t ≤ p.bound → v ≤ W p → r.circuit t v ≡ get_or (rows p (bytes_of_reading p r) t) v false
   circuit_by_rows t v h l = sym (row_at p r t v l) ∙ ap (λ (vs : List Bool). get_or vs v false) (same_rows t h)
 
-  nodes_by_shape : NodeLaws p (shape (bytes_of_reading p r)) (rows p (bytes_of_reading p r)) r.p_true r.q_true r.e_true
+  nodes_by_shape : NodeLaws p (shape (bytes_of_reading p r)) (rows p (bytes_of_reading p r)) r.P r.Q r.E
   nodes_by_shape =
       let start = start_within p (byte (bytes_of_reading p r) 0) (bytes_start p r) in
       node_laws_same (children_earlier proper) (row p r) (rows p (bytes_of_reading p r))
@@ -112,13 +112,13 @@ module _ (p : Problem) (proper : Proper p) (r : Reading) (laws : ModelLaws p r) 
         p_law = laws.p_law;
         q_law = laws.q_law;
         e_law = λ n l.
-            end_by_shape p r.chosen (r.q_true n) (r.e_true n) (shape (bytes_of_reading p r)) start (bytes_choose p r laws.single_law)
+            end_by_shape p r.chosen (r.Q n) (r.E n) (shape (bytes_of_reading p r)) start (bytes_choose p r laws.single_law)
             (λ m. laws.e_chosen_law n m l) (laws.e_closed_law n l);
       })
 
   nodes_by_tables : (n i : ℕ) → n < length p.nodes → i ≤ p.bound
       → let known : Reading = witness_reading p (bytes_of_reading p r) in
-      (r.p_true n i ≡ known.p_true n i) × (r.q_true n i ≡ known.q_true n i) × (r.e_true n ≡ known.e_true n)
+      (r.P n i ≡ known.P n i) × (r.Q n i ≡ known.Q n i) × (r.E n ≡ known.E n)
   nodes_by_tables =
       node_laws_determine (children_earlier proper) (start_within p (byte (bytes_of_reading p r) 0) (bytes_start p r)) nodes_by_shape
       (tables_of_rows proper (bytes_of_reading p r) (bytes_start p r))
@@ -128,9 +128,9 @@ module _ (p : Problem) (proper : Proper p) (r : Reading) (laws : ModelLaws p r) 
     truth = laws.truth_law;
     circuit = λ t v h l. circuit_by_rows t (suc v) h l;
     chosen = bytes_choose p r laws.single_law;
-    p_true = λ n i l h. (nodes_by_tables n i l h).0;
-    q_true = λ n i l h. (nodes_by_tables n i l h).1;
-    e_true = λ n l. (nodes_by_tables n 0 l zero-le).2;
+    P = λ n i l h. (nodes_by_tables n i l h).0;
+    Q = λ n i l h. (nodes_by_tables n i l h).1;
+    E = λ n l. (nodes_by_tables n 0 l zero-le).2;
   }
 
   -- The first latches meet their resets, each position the constraints, a chosen loop closes, and the formula is true at 0.
@@ -155,14 +155,14 @@ module _ (p : Problem) (proper : Proper p) (r : Reading) (laws : ModelLaws p r) 
           → get_or (next_values p (position p (bytes_of_reading p r) p.bound)) i false ≡ get_or (position p (bytes_of_reading p r) l).latches i false
       at i q =
           next_value p (position p (bytes_of_reading p r) p.bound) i q
-          ∙ ap (λ (vs : List Bool). literal_value vs (latch p i).next_literal) (sym (same_rows p.bound (omega arith)))
+          ∙ ap (λ (vs : List Bool). literal_value vs (latch p i).next) (sym (same_rows p.bound (omega arith)))
           ∙ sym (laws.closing_law l i h q c)
           ∙ rows_latches p (bytes_of_reading p r) (bytes_length p r) r circuit_by_rows l i h q
 
   formula_true : bounded_value (shape (bytes_of_reading p r)) p.bound (rows p (bytes_of_reading p r)) (formula p) 0 ≡ true
   formula_true =
       let some : 1 ≤ length p.nodes = proper.nodes_some in
-      rw (formula_is p) (sym (model_agrees.p_true (length p.nodes - 1) 0 (omega arith) zero-le) ∙ laws.formula_law)
+      rw (formula_is p) (sym (model_agrees.P (length p.nodes - 1) 0 (omega arith) zero-le) ∙ laws.formula_law)
 
   shows_by_shape : (s : Shape) → StartWithin s p → ((l : ℕ) → l ≤ p.bound → r.chosen l ≡ chosen_of s l)
       → bounded_value s p.bound (rows p (bytes_of_reading p r)) (formula p) 0 ≡ true → Shows p (bytes_of_reading p r) s

@@ -18,7 +18,7 @@ chosen_values p r = map r.chosen (positions p)
 
 -- P(n,0..k), Q(n,0..k), E(n).
 abbrev pub node_values : Problem → Reading → ℕ → List Bool
-node_values p r n = map (r.p_true n) (positions p) ++ (map (r.q_true n) (positions p) ++ (r.e_true n ∷ []))
+node_values p r n = map (r.P n) (positions p) ++ (map (r.Q n) (positions p) ++ (r.E n ∷ []))
 
 unfoldable pub layout : Problem → Reading → Assignment
 layout p r =
@@ -34,6 +34,6 @@ pub record Agree (p : Problem) (r s : Reading) : Type 0 where
   pub truth : r.truth ≡ s.truth
   pub circuit : (t v : ℕ) → t ≤ p.bound → v < W p → r.circuit t (suc v) ≡ s.circuit t (suc v)
   pub chosen : (l : ℕ) → l ≤ p.bound → r.chosen l ≡ s.chosen l
-  pub p_true : (n i : ℕ) → n < length p.nodes → i ≤ p.bound → r.p_true n i ≡ s.p_true n i
-  pub q_true : (n i : ℕ) → n < length p.nodes → i ≤ p.bound → r.q_true n i ≡ s.q_true n i
-  pub e_true : (n : ℕ) → n < length p.nodes → r.e_true n ≡ s.e_true n
+  pub P : (n i : ℕ) → n < length p.nodes → i ≤ p.bound → r.P n i ≡ s.P n i
+  pub Q : (n i : ℕ) → n < length p.nodes → i ≤ p.bound → r.Q n i ≡ s.Q n i
+  pub E : (n : ℕ) → n < length p.nodes → r.E n ≡ s.E n

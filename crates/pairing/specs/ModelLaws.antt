@@ -13,18 +13,18 @@ pub record Reading : Type 0 where
   pub truth : Bool
   pub circuit : ℕ → ℕ → Bool
   pub chosen : ℕ → Bool
-  pub p_true : ℕ → ℕ → Bool
-  pub q_true : ℕ → ℕ → Bool
-  pub e_true : ℕ → Bool
+  pub P : ℕ → ℕ → Bool
+  pub Q : ℕ → ℕ → Bool
+  pub E : ℕ → Bool
 
 abbrev pub reading : Problem → Assignment → Reading
 reading p a = record {
   truth = literal_true a true_literal;
   circuit = λ t v. literal_true a (circuit_variable p t v);
   chosen = λ l. literal_true a (selector p l);
-  p_true = λ n i. literal_true a (pos (node_variables p n + i));
-  q_true = λ n i. literal_true a (pos (node_variables p n + (p.bound + 1) + i));
-  e_true = λ n. literal_true a (Cnf.E p n);
+  P = λ n i. literal_true a (pos (node_variables p n + i));
+  Q = λ n i. literal_true a (pos (node_variables p n + (p.bound + 1) + i));
+  E = λ n. literal_true a (Cnf.E p n);
 }
 
 -- The values of variables 0..W at t.
@@ -38,14 +38,14 @@ pub record ModelLaws (p : Problem) (r : Reading) : Type 0 where
   pub constraint_law : (t c : ℕ) → t ≤ p.bound → c < length p.constraints → literal_value (row p r t) (constraint p c) ≡ true
   pub reset_law : (i : ℕ) → i < length p.latches → meets_reset (latch p i).reset (r.circuit 0 (latch_variable p i)) ≡ true
   pub step_law : (t i : ℕ) → t < p.bound → i < length p.latches
-      → r.circuit (t + 1) (latch_variable p i) ≡ literal_value (row p r t) (latch p i).next_literal
+      → r.circuit (t + 1) (latch_variable p i) ≡ literal_value (row p r t) (latch p i).next
   pub closing_law : (l i : ℕ) → l ≤ p.bound → i < length p.latches → r.chosen l ≡ true
-      → r.circuit l (latch_variable p i) ≡ literal_value (row p r p.bound) (latch p i).next_literal
+      → r.circuit l (latch_variable p i) ≡ literal_value (row p r p.bound) (latch p i).next
   pub single_law : (l m : ℕ) → l < m → m ≤ p.bound → r.chosen l && r.chosen m ≡ false
   pub p_law : (n i : ℕ) → n < length p.nodes → i ≤ p.bound
-      → r.p_true n i ≡ op_value p.bound (row p r) r.p_true r.e_true (node p n) i (at_next p.bound (r.p_true n) (r.e_true n) i)
+      → r.P n i ≡ op_value p.bound (row p r) r.P r.E (node p n) i (at_next p.bound (r.P n) (r.E n) i)
   pub q_law : (n i : ℕ) → n < length p.nodes → i ≤ p.bound
-      → r.q_true n i ≡ q_value p.bound (row p r) r.p_true r.e_true (r.q_true n) (node p n) n i
-  pub e_chosen_law : (n l : ℕ) → n < length p.nodes → l ≤ p.bound → r.chosen l ≡ true → r.e_true n ≡ r.q_true n l
-  pub e_closed_law : (n : ℕ) → n < length p.nodes → r.e_true n ≡ true → some_of r.chosen (positions p) ≡ true
-  pub formula_law : r.p_true (length p.nodes - 1) 0 ≡ true
+      → r.Q n i ≡ q_value p.bound (row p r) r.P r.E (r.Q n) (node p n) n i
+  pub e_chosen_law : (n l : ℕ) → n < length p.nodes → l ≤ p.bound → r.chosen l ≡ true → r.E n ≡ r.Q n l
+  pub e_closed_law : (n : ℕ) → n < length p.nodes → r.E n ≡ true → some_of r.chosen (positions p) ≡ true
+  pub formula_law : r.P (length p.nodes - 1) 0 ≡ true

@@ -10,11 +10,11 @@ use lib.ListN.{length, take, length-append, length-take}
 use lib.Seq.{take-suc, take_all}
 use Rattle.answers.specs.Lists.{those}
 use Rattle.answers.proofs.Tests.{those_few, those_append}
-use Rattle.meaning.specs.Problem.{Problem, Outline, Latch, Node, atom_node, latch, node}
-use Rattle.meaning.specs.Tally.{fixed_resets, is_equal, is_junction, is_unfolding}
+use Rattle.meaning.specs.Problem.{Problem, Outline, Latch, Node, atom, latch, node}
+use Rattle.meaning.proofs.ClosedForms.{fixed_resets, has_equal_form, has_or_form, has_until_form}
 use Rattle.problem.specs.declared.kinds.Kind.{Kind}
 use Rattle.problem.specs.declared.kinds.Kind.TheVariants as Kind
-use Rattle.problem.specs.declared.tally.Seen.{Seen}
+use Rattle.problem.specs.declared.count.Seen.{Seen}
 use Rattle.problem.specs.Kinds.{count_of}
 use Rattle.problem.specs.Walks.{FormsOf, FewForms, Added, SeenTo}
 
@@ -31,20 +31,20 @@ module _ {A : Type 0} (t : A → Bool) where
 
 pub few_forms : {xs : List Node} {f : Seen} → FormsOf xs f → length xs < 2 ^ 32 → FewForms f
 few_forms {xs} o h = record {
-  equals_few = omega (arith, o.equals_are, those_few is_equal xs);
-  junctions_few = omega (arith, o.junctions_are, those_few is_junction xs);
-  unfoldings_few = omega (arith, o.unfoldings_are, those_few is_unfolding xs);
+  equals_few = omega (arith, o.equals_are, those_few has_equal_form xs);
+  ors_few = omega (arith, o.ors_are, those_few has_or_form xs);
+  untils_few = omega (arith, o.untils_are, those_few has_until_form xs);
 }
 
 pub added : (f : Seen) (x : Node) → {r : Seen}
-    → r.equals ≡ f.equals + cond (is_equal x) 1 0 → r.junctions ≡ f.junctions + cond (is_junction x) 1 0 → r.unfoldings ≡ f.unfoldings + cond (is_unfolding x) 1 0
+    → r.equals ≡ f.equals + cond (has_equal_form x) 1 0 → r.ors ≡ f.ors + cond (has_or_form x) 1 0 → r.untils ≡ f.untils + cond (has_until_form x) 1 0
     → r.fixed ≡ f.fixed → Added f x r
 added f x e o u s = record {
   fixed_stay = s;
   forms = λ xs h. record {
-    equals_are = omega (arith, e, h.equals_are, those_more is_equal xs x);
-    junctions_are = omega (arith, o, h.junctions_are, those_more is_junction xs x);
-    unfoldings_are = omega (arith, u, h.unfoldings_are, those_more is_unfolding xs x);
+    equals_are = omega (arith, e, h.equals_are, those_more has_equal_form xs x);
+    ors_are = omega (arith, o, h.ors_are, those_more has_or_form xs x);
+    untils_are = omega (arith, u, h.untils_are, those_more has_until_form xs x);
   };
 }
 
@@ -64,10 +64,10 @@ module _ (p : Problem) {i : ℕ} (f : Seen) where
   pub latch_more : i < length p.latches → SeenTo Kind.Latch p i f → (r : Seen) → r.fixed ≡ f.fixed + cond (fixed (latch p i)) 1 0
       → SeenTo Kind.Latch p (i + 1) r
   latch_more l seen r e =
-      e ∙ rw (seen, add-one, take-suc p.latches i (record { next_literal = 0; reset = 2 }) l) (sym (those_more fixed (take i p.latches) (latch p i)))
+      e ∙ rw (seen, add-one, take-suc p.latches i (record { next = 0; reset = 2 }) l) (sym (those_more fixed (take i p.latches) (latch p i)))
 
   pub node_more : i < length p.nodes → SeenTo Kind.Node p i f → (r : Seen) → Added f (node p i) r → SeenTo Kind.Node p (i + 1) r
-  node_more l seen r more = rw (add-one, take-suc p.nodes i (atom_node 0) l) (more.forms (take i p.nodes) seen)
+  node_more l seen r more = rw (add-one, take-suc p.nodes i (atom 0) l) (more.forms (take i p.nodes) seen)
 
 -- ════════ All of a kind ════════
 
@@ -87,8 +87,8 @@ pub kind_by : {k k' : Kind} (o : Outline) (p : Problem) (i : ℕ) (f : Seen) →
 kind_by o p i f e seen = rw e at seen
 
 -- Nothing is counted among none.
-pub none_seen : (k : Kind) (p : Problem) → SeenTo k p 0 (record { fixed = 0; equals = 0; junctions = 0; unfoldings = 0 })
+pub none_seen : (k : Kind) (p : Problem) → SeenTo k p 0 (record { fixed = 0; equals = 0; ors = 0; untils = 0 })
 none_seen Kind.Latch p = refl
 none_seen Kind.Gate p = tt
 none_seen Kind.Constraint p = tt
-none_seen Kind.Node p = record { equals_are = refl; junctions_are = refl; unfoldings_are = refl }
+none_seen Kind.Node p = record { equals_are = refl; ors_are = refl; untils_are = refl }

@@ -16,7 +16,7 @@ use Rattle.problem.specs.declared.Refusal.{Refusal}
 use Rattle.problem.specs.declared.Refusal.TheVariants.{BadLength, BadReset, BadLiteral, BadNode}
 use Rattle.problem.specs.declared.Checked.{Checked}
 use Rattle.problem.specs.declared.Checked.TheVariants.{Good, Refused}
-use Rattle.problem.specs.Promise.{checked_answer, problem_in, Outlined, OutlinedBy, CountedBy, CheckedAs}
+use Rattle.problem.specs.Promise.{answer_of, problem_in, Outlined, OutlinedBy, CountedBy, CheckedAs}
 use Rattle.problem.proofs.Unique.{checked_unique, outline_unique}
 
 -- ════════ What it is to break the promise ════════
@@ -40,16 +40,16 @@ abbrev pub Breaks : Input → Checked → Type 0
 Breaks x r = ¬ (Meets x r)
 
 -- Whatever is not the right outcome breaks it; so does another number, and another place.
-module _ (x : Input) (r : Checked) (right : checked_answer x.right ≡ laid_down x) where
+module _ (x : Input) (r : Checked) (right : answer_of x.right ≡ laid_down x) where
   pub other : OutlinedBy x.version x.words x.right → CountedBy x.version x.words x.right → ¬ (r ≡ x.right) → Breaks x r
   unfolding laid_down
   other outlined counted h m = h (checked_unique x.version x.words r x.right m (record { answered = right; outlined = outlined; counted = counted }))
 
-  pub other_number : ¬ ((checked_answer r).number ≡ (checked_answer x.right).number) → Breaks x r
+  pub other_number : ¬ ((answer_of r).number ≡ (answer_of x.right).number) → Breaks x r
   unfolding laid_down
   other_number h m = h (number_of (m.answered ∙ sym right))
 
-  pub other_place : ¬ ((checked_answer r).place ≡ (checked_answer x.right).place) → Breaks x r
+  pub other_place : ¬ ((answer_of r).place ≡ (answer_of x.right).place) → Breaks x r
   unfolding laid_down
   other_place h m = h (place_of (m.answered ∙ sym right))
 

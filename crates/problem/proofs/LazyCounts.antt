@@ -12,8 +12,7 @@ use Rattle.meaning.specs.Problem.{Problem, header_words, problem_by, problem}
 use Rattle.meaning.specs.Cases.{limit_words}
 use Rattle.meaning.specs.Cnf.{variables, cnf, cnf_words}
 use Rattle.meaning.proofs.Check.{proper_if_well_formed}
-use Rattle.meaning.specs.Tally.{Tally, tally}
-use Rattle.meaning.proofs.ClosedForms.{pairs, node_count, variables_of, junction_weight, equal_weight, selected_weight, values_weight, end_weight, item_totals, variable_count, clause_count, word_count}
+use Rattle.meaning.proofs.ClosedForms.{Tally, tally, pairs, node_count, variables_of, or_weight, equal_weight, selected_weight, values_weight, end_weight, item_totals, variable_count, clause_count, word_count}
 use Rattle.meaning.proofs.Counts.{forms_are_all, variable_count_is, clause_count_is, word_count_is}
 use Rattle.meaning.proofs.AllLimits.{limits_formed, limits_counted}
 use Rattle.counts.specs.declared.Counts.{Counts}
@@ -37,8 +36,8 @@ with_positions n t = record {
   gates = t.gates;
   constraints = t.constraints;
   equals = t.equals;
-  junctions = t.junctions;
-  unfoldings = t.unfoldings;
+  ors = t.ors;
+  untils = t.untils;
 }
 
 -- A position more is a selector more at least.
@@ -59,7 +58,7 @@ lighter w n t weighs grows some =
     let end_grows : suc end ≤ end_weight w (with_positions (n + 1) t) = omega (arith, add-mul n 1 (selected_weight w)) in
     omega (
       arith,
-      mul-le-mul_right (t.gates * junction_weight w) positions,
+      mul-le-mul_right (t.gates * or_weight w) positions,
       mul-le-mul_right (t.constraints * w 1) positions,
       mul-le-mul_right (t.latches * equal_weight w) before_last,
       mul-le-mul_right (t.latches * selected_weight w) positions,

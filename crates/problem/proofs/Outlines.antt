@@ -5,7 +5,7 @@ use Prim.Native.Nat.{ℕ, ◌+◌, ◌≤◌, ◌<◌}
 use native.Mathlib.Omega.{arith}
 use lib.ListN.{length}
 use Rattle.answers.specs.Limits.{inputs_limit, latches_limit, gates_limit, bound_limit}
-use Rattle.meaning.specs.Problem.{Problem, Latch, Gate, atom_node, latch, gate, constraint, node, word, latch_place, gate_place, constraint_place, read_node}
+use Rattle.meaning.specs.Problem.{Problem, Latch, Gate, atom, latch, gate, constraint, node, word, latch_place, gate_place, constraint_place, read_node}
 use Rattle.meaning.proofs.ShownBy.{inputs_by, bound_by, latches_by, gates_by, constraints_by, nodes_by, latch_by, gate_by, constraint_by, node_by, latch_past, gate_past, constraint_past, node_past}
 use Rattle.problem.specs.declared.Outline.{Outline}
 use Rattle.problem.specs.Promise.{outline_of, problem_in, ProperIn}
@@ -33,9 +33,9 @@ module _ (s : Outline) (ws : List ℕ) where
 
   -- The words at the places of a latch, a gate, a constraint, a node.
   module _ (i : ℕ) (l : i < s.latches) where
-    pub next_read : word ws (latch_place (outline_of s) i) ≡ (latch (problem_in s ws) i).next_literal
+    pub next_read : word ws (latch_place (outline_of s) i) ≡ (latch (problem_in s ws) i).next
     unfolding problem_in
-    next_read = sym (ap (λ (c : Latch). c.next_literal) (latch_by (outline_of s) ws i l))
+    next_read = sym (ap (λ (c : Latch). c.next) (latch_by (outline_of s) ws i l))
 
     pub reset_read : word ws (latch_place (outline_of s) i + 1) ≡ (latch (problem_in s ws) i).reset
     unfolding problem_in
@@ -60,9 +60,9 @@ module _ (s : Outline) (ws : List ℕ) where
 
   -- Past the end.
   module _ (i : ℕ) (l : s.latches ≤ i) where
-    pub next_past : (latch (problem_in s ws) i).next_literal ≡ 0
+    pub next_past : (latch (problem_in s ws) i).next ≡ 0
     unfolding problem_in
-    next_past = ap (λ (c : Latch). c.next_literal) (latch_past (outline_of s) ws i l)
+    next_past = ap (λ (c : Latch). c.next) (latch_past (outline_of s) ws i l)
 
     pub reset_past : (latch (problem_in s ws) i).reset ≡ 2
     unfolding problem_in
@@ -81,7 +81,7 @@ module _ (s : Outline) (ws : List ℕ) where
   unfolding problem_in
   constraints_past c l = constraint_past (outline_of s) ws c l
 
-  pub nodes_past : (n : ℕ) → s.formula_nodes ≤ n → node (problem_in s ws) n ≡ atom_node 0
+  pub nodes_past : (n : ℕ) → s.formula_nodes ≤ n → node (problem_in s ws) n ≡ atom 0
   unfolding problem_in
   nodes_past n l = node_past (outline_of s) ws n l
 

@@ -21,8 +21,8 @@ use Rattle.problem.specs.declared.Left.{Left}
 use Rattle.problem.specs.declared.Left.TheVariants.{Constant, Child}
 use Rattle.problem.specs.declared.Node.{Node}
 use Rattle.problem.specs.declared.Node.TheVariants.{Atom, Both, Either, Next, Until, Release}
-use Rattle.problem.specs.Promise.{refusal_answer, checked_answer, outline_of, CheckedAs, left_of, node_read}
-use Rattle.problem.specs.CheckParts.{part_answer_then, Answers, Joined}
+use Rattle.problem.specs.Promise.{refusal_answer, answer_of, outline_of, CheckedAs, left_of, node_read}
+use Rattle.problem.specs.CheckParts.{answer_then, Answers, Joined}
 
 -- ════════ The refusals ════════
 
@@ -56,7 +56,7 @@ refusal_not_yes (BadNode i) e = omega arith
 -- ════════ The parts of a check ════════
 
 -- Two answers that hand on, or refuse, whatever comes after, are one.
-same_part : (r r' : PartAnswer) → ((after : Answer) → part_answer_then r after ≡ part_answer_then r' after) → r ≡ r'
+same_part : (r r' : PartAnswer) → ((after : Answer) → answer_then r after ≡ answer_then r' after) → r ≡ r'
 same_part parts.Passed parts.Passed e = refl
 same_part parts.Passed (parts.Refused f) e = absurd (refusal_not_yes f (number_of (sym (e (granted 0)))))
 same_part (parts.Refused f) parts.Passed e = absurd (refusal_not_yes f (number_of (e (granted 0))))
@@ -106,7 +106,7 @@ same_record : (g g' : ProblemRecord) → g.outline ≡ g'.outline → g.counts �
 same_record g g' o c = ap (λ s. record { outline = s; counts = g.counts }) o ∙ ap (λ n. record { outline = g'.outline; counts = n }) c
 
 -- Two outcomes with one answer: both the record of the words, or one refusal.
-same_outcome : (version : ℕ) (ws : List ℕ) (r r' : Checked) → CheckedAs version ws r → CheckedAs version ws r' → checked_answer r ≡ checked_answer r' → r ≡ r'
+same_outcome : (version : ℕ) (ws : List ℕ) (r r' : Checked) → CheckedAs version ws r → CheckedAs version ws r' → answer_of r ≡ answer_of r' → r ≡ r'
 same_outcome version ws (Good g) (Good g') a a' e =
     let outlines : g.outline ≡ g'.outline = outline_unique g.outline g'.outline (a.outlined.outline_is ∙ sym a'.outlined.outline_is) in
     ap Good (same_record g g' outlines (a.counted ∙ sym a'.counted))
@@ -129,12 +129,12 @@ left_back_of (Constant b) = refl
 left_back_of (Child c) = refl
 
 abbrev node_back : problems.Node → Node
-node_back (problems.atom_node x) = Atom x
-node_back (problems.both_node a b) = Both a b
-node_back (problems.either_node a b) = Either a b
-node_back (problems.next_node a) = Next a
-node_back (problems.until_node a b) = Until (left_back a) b
-node_back (problems.release_node a b) = Release (left_back a) b
+node_back (problems.atom x) = Atom x
+node_back (problems.both a b) = Both a b
+node_back (problems.either a b) = Either a b
+node_back (problems.next a) = Next a
+node_back (problems.until a b) = Until (left_back a) b
+node_back (problems.release a b) = Release (left_back a) b
 
 node_back_of : (r : Node) → node_back (node_read r) ≡ r
 node_back_of (Atom x) = refl

@@ -26,9 +26,9 @@ refusal_answer (BadReset i) = bad_reset i
 refusal_answer (BadLiteral i) = bad_literal i
 refusal_answer (BadNode i) = bad_node i
 
-abbrev pub checked_answer : Checked → Answer
-checked_answer (Good g) = granted 0
-checked_answer (Refused f) = refusal_answer f
+abbrev pub answer_of : Checked → Answer
+answer_of (Good g) = granted 0
+answer_of (Refused f) = refusal_answer f
 
 -- ════════ The outline ════════
 
@@ -81,7 +81,7 @@ CountedBy version ws (Refused f) = Unit
 
 -- The check: its answer, and where it is yes the outline and the numbers of the CNF.
 pub record CheckedAs (version : ℕ) (ws : List ℕ) (r : Checked) : Type 0 where
-  pub answered : checked_answer r ≡ check_problem version ws
+  pub answered : answer_of r ≡ check_problem version ws
   pub outlined : OutlinedBy version ws r
   pub counted : CountedBy version ws r
 
@@ -93,9 +93,9 @@ left_of (Constant b) = problems.constant b
 left_of (Child c) = problems.child c
 
 abbrev pub node_read : Node → problems.Node
-node_read (Atom x) = problems.atom_node x
-node_read (Both a b) = problems.both_node a b
-node_read (Either a b) = problems.either_node a b
-node_read (Next a) = problems.next_node a
-node_read (Until a b) = problems.until_node (left_of a) b
-node_read (Release a b) = problems.release_node (left_of a) b
+node_read (Atom x) = problems.atom x
+node_read (Both a b) = problems.both a b
+node_read (Either a b) = problems.either a b
+node_read (Next a) = problems.next a
+node_read (Until a b) = problems.until (left_of a) b
+node_read (Release a b) = problems.release (left_of a) b

@@ -4,14 +4,14 @@ use Rattle.answers.specs.Lists.{those}
 use Rattle.meaning.specs.Problem.{Problem, Node}
 use Rattle.meaning.specs.Check.{each_below}
 use Rattle.meaning.specs.Calls.{outline_parts_with}
-use Rattle.meaning.specs.Tally as counted
-use Rattle.meaning.specs.Tally.{fixed_resets, is_equal, is_junction, is_unfolding}
+use Rattle.meaning.proofs.ClosedForms as forms
+use Rattle.meaning.proofs.ClosedForms.{fixed_resets, has_equal_form, has_or_form, has_until_form}
 use Rattle.problem.specs.declared.Outline.{Outline}
 use Rattle.problem.specs.declared.kinds.Kind.{Kind}
 use Rattle.problem.specs.declared.kinds.Kind.TheVariants as kinds
 use Rattle.problem.specs.declared.parts.PartAnswer.TheVariants.{Passed}
 use Rattle.problem.specs.declared.check.Walked.{Walked}
-use Rattle.problem.specs.declared.tally.Seen.{Seen}
+use Rattle.problem.specs.declared.count.Seen.{Seen}
 use Rattle.problem.specs.Promise.{outline_of, problem_in}
 use Rattle.problem.specs.CheckParts.{Answers}
 use Rattle.problem.specs.Kinds.{count_of, checks_of}
@@ -20,15 +20,15 @@ use Rattle.problem.specs.Kinds.{count_of, checks_of}
 
 -- These are the numbers of the nodes by their form.
 pub record FormsOf (xs : List Node) (f : Seen) : Type 0 where
-  pub equals_are : f.equals ≡ length (those is_equal xs)
-  pub junctions_are : f.junctions ≡ length (those is_junction xs)
-  pub unfoldings_are : f.unfoldings ≡ length (those is_unfolding xs)
+  pub equals_are : f.equals ≡ length (those has_equal_form xs)
+  pub ors_are : f.ors ≡ length (those has_or_form xs)
+  pub untils_are : f.untils ≡ length (those has_until_form xs)
 
 -- Each can grow by one.
 pub record FewForms (f : Seen) : Type 0 where
   pub equals_few : f.equals < 2 ^ 32
-  pub junctions_few : f.junctions < 2 ^ 32
-  pub unfoldings_few : f.unfoldings < 2 ^ 32
+  pub ors_few : f.ors < 2 ^ 32
+  pub untils_few : f.untils < 2 ^ 32
 
 -- After the nodes that gave f comes one more.
 pub record Added (f : Seen) (x : Node) (r : Seen) : Type 0 where
@@ -47,8 +47,8 @@ pub record SeenIn (p : Problem) (f : Seen) : Type 0 where
   pub fixed_are : f.fixed ≡ fixed_resets p.latches
   pub forms_are : FormsOf p.nodes f
 
--- What the outline and the walks have counted.
-abbrev pub tally_with : Outline → Seen → counted.Tally
+-- What is handed to the closed forms.
+abbrev pub tally_with : Outline → Seen → forms.Tally
 tally_with s f = record {
   positions = s.bound + 1;
   width = s.width;
@@ -57,8 +57,8 @@ tally_with s f = record {
   gates = s.gates;
   constraints = s.constraints;
   equals = f.equals;
-  junctions = f.junctions;
-  unfoldings = f.unfoldings;
+  ors = f.ors;
+  untils = f.untils;
 }
 
 -- ════════ The walks ════════

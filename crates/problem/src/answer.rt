@@ -1,6 +1,6 @@
 // Document 01's number and place of each answer to a problem.
 ghost use Rattle.std.specs.Prelude.{◌≡◌};
-ghost use Rattle.problem.specs.Promise.{refusal_answer, checked_answer};
+ghost use Rattle.problem.specs.Promise.{refusal_answer, answer_of};
 
 use crate::{Checked, Refusal};
 
@@ -33,7 +33,7 @@ pub fn refusal_place(f: Refusal) -> usize
 }
 
 pub fn number(r: Checked) -> u32
-    ensures { result ≡ (checked_answer r).number }
+    ensures { result ≡ (answer_of r).number }
 {
     match r {
         Checked::Good(_) => YES,
@@ -42,7 +42,7 @@ pub fn number(r: Checked) -> u32
 }
 
 pub fn place(r: Checked) -> usize
-    ensures { result ≡ (checked_answer r).place }
+    ensures { result ≡ (answer_of r).place }
 {
     match r {
         Checked::Good(_) => 0,

@@ -6,13 +6,13 @@ ghost use Rattle.problem.specs.CheckParts.{Answers};
 ghost use Rattle.problem.specs.Kinds.{checks_of};
 ghost use Rattle.problem.specs.Walks.{AllWalked, PartsWalked};
 
+use crate::count::{Seen, numbers, with_one};
 use crate::header::{
     BOUND, CONSTRAINTS, GATES, INPUTS, LATCHES, NODES, header_word, header_words, outline,
 };
 use crate::kinds::{Kind, number_of};
-use crate::parts::{CHILDREN, PartAnswer, constraint, first_refusal, gate, latch, limit, node};
+use crate::parts::{CHILDREN, PartAnswer, constraint, gate, latch, limit, node, then};
 use crate::read::node_place;
-use crate::tally::{Seen, numbers, with_one};
 use crate::{Checked, Outline, ProblemRecord, Refusal};
 use answers::limits::{
     BOUND_LIMIT, CONSTRAINTS_LIMIT, GATES_LIMIT, INPUTS_LIMIT, LATCHES_LIMIT, NODES_LIMIT,
@@ -52,14 +52,14 @@ fn constraints_limit(version: u32, words: &[u32]) -> PartAnswer
 fn limits(version: u32, words: &[u32]) -> PartAnswer
     ensures { Answers (limit_checks version words.now ∷ []) result }
 {
-    let to_latches = first_refusal(
+    let to_latches = then(
         limit(words, INPUTS, 0, INPUTS_LIMIT),
         limit(words, LATCHES, 0, LATCHES_LIMIT),
     );
-    let to_gates = first_refusal(to_latches, limit(words, GATES, 0, GATES_LIMIT));
-    let to_nodes = first_refusal(to_gates, limit(words, NODES, 1, NODES_LIMIT));
-    let to_bound = first_refusal(to_nodes, limit(words, BOUND, 0, BOUND_LIMIT));
-    first_refusal(to_bound, constraints_limit(version, words))
+    let to_gates = then(to_latches, limit(words, GATES, 0, GATES_LIMIT));
+    let to_nodes = then(to_gates, limit(words, NODES, 1, NODES_LIMIT));
+    let to_bound = then(to_nodes, limit(words, BOUND, 0, BOUND_LIMIT));
+    then(to_bound, constraints_limit(version, words))
 }
 
 fn length(words: &[u32], s: Outline) -> PartAnswer
@@ -72,7 +72,7 @@ fn length(words: &[u32], s: Outline) -> PartAnswer
 }
 
 // One of a kind.
-fn one_of_kind(words: &[u32], s: Outline, kind: Kind, i: u32, children: &[u32]) -> PartAnswer
+fn one(words: &[u32], s: Outline, kind: Kind, i: u32, children: &[u32]) -> PartAnswer
     ensures { Answers (checks_of children.now kind (outline_of s) words.now i ∷ []) result }
 {
     match kind {
@@ -84,7 +84,7 @@ fn one_of_kind(words: &[u32], s: Outline, kind: Kind, i: u32, children: &[u32]) 
 }
 
 // All of a kind, in their order; one walk checks and counts.
-fn all_of_kind(words: &[u32], s: Outline, kind: Kind, children: &[u32]) -> Walked
+fn all(words: &[u32], s: Outline, kind: Kind, children: &[u32]) -> Walked
     requires { s.formula_nodes ≡ s.written_nodes }
     ensures { AllWalked children.now kind s words.now result }
 {
@@ -92,12 +92,12 @@ fn all_of_kind(words: &[u32], s: Outline, kind: Kind, children: &[u32]) -> Walke
     let mut seen = Seen {
         fixed: 0,
         equals: 0,
-        junctions: 0,
-        unfoldings: 0,
+        ors: 0,
+        untils: 0,
     };
     let mut i: u32 = 0;
     while i < n {
-        let r = one_of_kind(words, s, kind, i, children);
+        let r = one(words, s, kind, i, children);
         let PartAnswer::Passed = r else {
             return Walked { answer: r, seen };
         };
@@ -118,29 +118,29 @@ fn parts(words: &[u32], s: Outline, children: &[u32]) -> Walked
     let Walked {
         answer: by_latches,
         seen: latches,
-    } = all_of_kind(words, s, Kind::Latch, children);
+    } = all(words, s, Kind::Latch, children);
     let Walked {
         answer: by_gates,
         ..
-    } = all_of_kind(words, s, Kind::Gate, children);
+    } = all(words, s, Kind::Gate, children);
     let Walked {
         answer: by_constraints,
         ..
-    } = all_of_kind(words, s, Kind::Constraint, children);
+    } = all(words, s, Kind::Constraint, children);
     let Walked {
         answer: by_nodes,
         seen: nodes,
-    } = all_of_kind(words, s, Kind::Node, children);
-    let to_latches = first_refusal(length(words, s), by_latches);
-    let to_gates = first_refusal(to_latches, by_gates);
-    let to_constraints = first_refusal(to_gates, by_constraints);
+    } = all(words, s, Kind::Node, children);
+    let to_latches = then(length(words, s), by_latches);
+    let to_gates = then(to_latches, by_gates);
+    let to_constraints = then(to_gates, by_constraints);
     Walked {
-        answer: first_refusal(to_constraints, by_nodes),
+        answer: then(to_constraints, by_nodes),
         seen: Seen {
             fixed: latches.fixed,
             equals: nodes.equals,
-            junctions: nodes.junctions,
-            unfoldings: nodes.unfoldings,
+            ors: nodes.ors,
+            untils: nodes.untils,
         },
     }
 }
@@ -149,7 +149,7 @@ fn parts(words: &[u32], s: Outline, children: &[u32]) -> Walked
 pub fn check(version: u32, words: &[u32]) -> Checked
     ensures { CheckedAs version words.now result }
 {
-    let opening = first_refusal(header(version, words), limits(version, words));
+    let opening = then(header(version, words), limits(version, words));
     if let PartAnswer::Refused(f) = opening {
         return Checked::Refused(f);
     }

@@ -1,11 +1,11 @@
 // Checks a problem, counts what its CNF has, and reads its parts.
 pub mod answer;
 pub mod check;
+mod count;
 pub mod header;
 mod kinds;
 pub mod parts;
 pub mod read;
-mod tally;
 
 use counts::Counts;
 

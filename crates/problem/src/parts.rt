@@ -24,7 +24,7 @@ pub enum PartAnswer {
 }
 
 // Two parts one after the other: the first that refuses gives the answer.
-pub fn first_refusal(first: PartAnswer, second: PartAnswer) -> PartAnswer
+pub fn then(first: PartAnswer, second: PartAnswer) -> PartAnswer
     ensures { Joined first second result }
 {
     match first {

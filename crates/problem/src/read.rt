@@ -55,7 +55,7 @@ pub(crate) fn node_place(s: Outline, n: u32) -> usize
 }
 
 pub fn latch_next(words: &[u32], s: Outline, i: u32) -> u32
-    ensures { result ≡ (latch (problem_in s words.now) i).next_literal }
+    ensures { result ≡ (latch (problem_in s words.now) i).next }
 {
     if i < s.latches {
         word_at(words, latch_place(s, i))

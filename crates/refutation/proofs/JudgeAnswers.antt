@@ -15,7 +15,7 @@ use Rattle.clauses.specs.CnfWords.{clauses_of, cnf_checks}
 use Rattle.clauses.specs.Refutations.{steps_of, refutation_checks, area_checks, judge_steps, judge_cnf, area_after}
 use Rattle.refutation.specs.declared.RefutationAnswer.{RefutationAnswer}
 use Rattle.refutation.specs.declared.RefutationAnswer.TheVariants.{BadCnf, BadRefutation, AreaTooSmall}
-use Rattle.refutation.specs.Promise.{refutation_answer, Judged}
+use Rattle.refutation.specs.Promise.{answer_of, Judged}
 use Rattle.refutation.specs.Work.{CnfRight, StepsRight}
 
 -- ════════ The outcomes ════════
@@ -88,7 +88,7 @@ module _ (variables : ℕ) (cnf ws : List ℤ) (numbers clauses : List ℕ) wher
             })
 
         pub all_judged : c + s ≤ length clauses → (r : RefutationAnswer) {numbers' clauses' : List ℕ}
-            → refutation_answer r ≡ judge_steps (clauses_of cnf) (steps_of ws)
+            → answer_of r ≡ judge_steps (clauses_of cnf) (steps_of ws)
             → numbers' ≡ written (replicate (suc variables) 0) numbers
             → clauses' ≡ written (replicate (c + s) 0) clauses
             → Meets r numbers' clauses'

@@ -11,7 +11,7 @@ use Rattle.clauses.specs.CnfWords.{cnf_checks}
 use Rattle.clauses.specs.Refutations.{judge_cnf, refutation_checks, area_checks, step_accepted}
 use Rattle.clauses.specs.Cases.{t_cnf, t_steps, t_other_steps}
 use Rattle.answers.proofs.Answers.{number_of, place_of}
-use Rattle.refutation.specs.Promise.{Judged, CnfCounted, StepsCounted, refutation_answer}
+use Rattle.refutation.specs.Promise.{Judged, CnfCounted, StepsCounted, answer_of}
 use Rattle.refutation.specs.declared.RefutationAnswer.{RefutationAnswer}
 use Rattle.refutation.specs.declared.RefutationAnswer.TheVariants.{Yes, BadCnf, BadRefutation, AreaTooSmall, StepRefused, NotClosed}
 use Rattle.refutation.specs.declared.WordsCounted.TheVariants.{Count, BadAt}
@@ -39,11 +39,11 @@ unfolding judge_cnf refutation_checks area_checks step_accepted cnf_checks varia
 laid_down x = judge_cnf x.variables x.cnf x.refutation (length x.numbers) (length x.clauses)
 
 module _ (x : Input) (r : RefutationAnswer) where
-  pub wrong_number : ¬ ((refutation_answer r).number ≡ (laid_down x).number) → Wrong x r
+  pub wrong_number : ¬ ((answer_of r).number ≡ (laid_down x).number) → Wrong x r
   unfolding laid_down
   wrong_number h numbers' clauses' j = h (number_of j.answered)
 
-  pub wrong_place : ¬ ((refutation_answer r).place ≡ (laid_down x).place) → Wrong x r
+  pub wrong_place : ¬ ((answer_of r).place ≡ (laid_down x).place) → Wrong x r
   unfolding laid_down
   wrong_place h numbers' clauses' j = h (place_of j.answered)
 
@@ -108,7 +108,7 @@ pub made_up_hint_place_breaks : (i : ℕ) → ¬ (i ≡ 2) → Wrong bad_hint (B
 unfolding laid_down
 made_up_hint_place_breaks i h = wrong_place bad_hint (BadRefutation i) h
 
-pub own_step_hinted_breaks : (r : RefutationAnswer) → ¬ ((refutation_answer r).number ≡ 11) → Wrong bad_hint r
+pub own_step_hinted_breaks : (r : RefutationAnswer) → ¬ ((answer_of r).number ≡ 11) → Wrong bad_hint r
 unfolding laid_down
 own_step_hinted_breaks r h = wrong_number bad_hint r h
 
@@ -192,7 +192,7 @@ unfolding laid_down
 length_for_bad_cnf_word_breaks = wrong_place bad_and_cut_cnf (BadCnf 3) (λ e. omega arith)
 
 -- Over the limit the answer is 16, before 11, 12, 13, 14 and yes.
-pub cnf_judged_last_breaks : (r : RefutationAnswer) → ¬ ((refutation_answer r).number ≡ 16) → Wrong over_limit r
+pub cnf_judged_last_breaks : (r : RefutationAnswer) → ¬ ((answer_of r).number ≡ 16) → Wrong over_limit r
 unfolding laid_down variables_limit
 cnf_judged_last_breaks r h = wrong_number over_limit r h
 

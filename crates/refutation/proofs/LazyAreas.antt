@@ -10,7 +10,7 @@ use Rattle.answers.specs.Answers.{Answer}
 use Rattle.clauses.specs.CnfWords.{clauses_of}
 use Rattle.clauses.specs.Refutations.{steps_of, numbers_area, clauses_area, judged, area_after}
 use Rattle.clauses.specs.Cases.{t_steps, t_other_steps}
-use Rattle.refutation.specs.Promise.{refutation_answer}
+use Rattle.refutation.specs.Promise.{answer_of}
 use Rattle.refutation.specs.declared.RefutationAnswer.{RefutationAnswer}
 use Rattle.refutation.proofs.Lazy.{Input, Breaks, laid_down, over_t, T, t_other, t_open, bad_hint, few_numbers, few_clauses, bad_cnf_literal}
 
@@ -40,35 +40,35 @@ module _ (x : Input) (e : judged (laid_down x) ≡ true) (r : RefutationAnswer) 
   pub number_word_left_breaks : i < numbers_area x.variables → ¬ (get_or numbers' i 0 ≡ 0) → Breaks x r numbers' clauses'
   unfolding laid_down
   number_word_left_breaks h w j =
-      w (ap (λ l. get_or l i 0) j.numbers_left ∙ cleared (refutation_answer r) _ _ (ap judged j.answered ∙ e) i h)
+      w (ap (λ l. get_or l i 0) j.numbers_left ∙ cleared (answer_of r) _ _ (ap judged j.answered ∙ e) i h)
 
   pub clause_word_left_breaks : i < clauses_area (clauses_of x.cnf) (steps_of x.refutation) → ¬ (get_or clauses' i 0 ≡ 0)
       → Breaks x r numbers' clauses'
   unfolding laid_down
   clause_word_left_breaks h w j =
-      w (ap (λ l. get_or l i 0) j.clauses_left ∙ cleared (refutation_answer r) _ _ (ap judged j.answered ∙ e) i h)
+      w (ap (λ l. get_or l i 0) j.clauses_left ∙ cleared (answer_of r) _ _ (ap judged j.answered ∙ e) i h)
 
   pub number_word_past_breaks : numbers_area x.variables ≤ i → ¬ (get_or numbers' i 0 ≡ get_or x.numbers i 0) → Breaks x r numbers' clauses'
   unfolding laid_down
   number_word_past_breaks h w j =
-      w (ap (λ l. get_or l i 0) j.numbers_left ∙ kept (refutation_answer r) _ _ (ap judged j.answered ∙ e) i h)
+      w (ap (λ l. get_or l i 0) j.numbers_left ∙ kept (answer_of r) _ _ (ap judged j.answered ∙ e) i h)
 
   pub clause_word_past_breaks : clauses_area (clauses_of x.cnf) (steps_of x.refutation) ≤ i → ¬ (get_or clauses' i 0 ≡ get_or x.clauses i 0)
       → Breaks x r numbers' clauses'
   unfolding laid_down
   clause_word_past_breaks h w j =
-      w (ap (λ l. get_or l i 0) j.clauses_left ∙ kept (refutation_answer r) _ _ (ap judged j.answered ∙ e) i h)
+      w (ap (λ l. get_or l i 0) j.clauses_left ∙ kept (answer_of r) _ _ (ap judged j.answered ∙ e) i h)
 
 -- ════════ Any input at which they are not: 11, 12, 16 ════════
 
 module _ (x : Input) (e : judged (laid_down x) ≡ false) (r : RefutationAnswer) (numbers' clauses' : List ℕ) where
   pub numbers_changed_breaks : ¬ (numbers' ≡ x.numbers) → Breaks x r numbers' clauses'
   unfolding laid_down
-  numbers_changed_breaks w j = w (j.numbers_left ∙ untouched (refutation_answer r) _ _ (ap judged j.answered ∙ e))
+  numbers_changed_breaks w j = w (j.numbers_left ∙ untouched (answer_of r) _ _ (ap judged j.answered ∙ e))
 
   pub clauses_changed_breaks : ¬ (clauses' ≡ x.clauses) → Breaks x r numbers' clauses'
   unfolding laid_down
-  clauses_changed_breaks w j = w (j.clauses_left ∙ untouched (refutation_answer r) _ _ (ap judged j.answered ∙ e))
+  clauses_changed_breaks w j = w (j.clauses_left ∙ untouched (answer_of r) _ _ (ap judged j.answered ∙ e))
 
 -- ════════ A work word left behind, at T and the like ════════
 

@@ -1,25 +1,22 @@
 -- Judges that follow a wrong rule for a step whose clause has both signs of a variable do not meet the promise. Assumes nothing.
-use mathlib.Core.Path.{◌≡◌, refl, sym, ◌∙◌}
+use mathlib.Core.Path.{◌≡◌, sym, ◌∙◌}
 use mathlib.Core.Bool.{Bool, true, false, not, cond, ◌&&◌, ◌||◌}
 use mathlib.Core.List.{List, [], ◌∷◌, map, Memᴰ}
-use mathlib.Core.Logic.{◌↔◌}
 use mathlib.Core.Option.{some}
 use Prim.Native.Nat.{ℕ, ◌<◌}
 use native.Mathlib.Omega.{arith}
 use lib.IntN.{ℤ, pos}
 use lib.Dec.{eqb}
-use lib.ListN.{length, get_or}
+use lib.ListN.{length}
 use Rattle.answers.specs.Lists.{all_of, empty}
-use Rattle.answers.specs.Answers.{Answer, granted, step_refused, not_closed}
 use Rattle.clauses.specs.Clauses.{Clause, minus, negated, variable_of, among}
 use Rattle.clauses.specs.CnfWords.{clauses_of}
-use Rattle.clauses.specs.Refutations.{Step, step, Lookup, steps_of, judge_steps, judge_cnf, judged, both_signs, clause_numbered, not_false, Outcome, conflict, unit, neither, hints_conflict, with_step}
-use Rattle.clauses.specs.StepsRefused.{clauses_before, passes}
+use Rattle.clauses.specs.Refutations.{Step, Lookup, steps_of, both_signs, clause_numbered, not_false, Outcome, conflict, unit, neither, hints_conflict, with_step}
 use Rattle.clauses.specs.Cases.{t_steps, t_trivial_first, t_trivial_numbered, t_trivial_hinted}
 use Rattle.answers.proofs.Tests.{not_both, false_if_not_true}
 use Rattle.clauses.proofs.StepRule.{by_no_hints}
 use Rattle.clauses.proofs.NeverAHint.{never_a_hint}
-use Rattle.clauses.proofs.StepByStep.{Reached, past_cnf, steps_13, steps_14, steps_yes}
+use Rattle.clauses.proofs.StepByStep.{step_at, clauses_before, accepted_at, Reached, yes_accepts, open_accepts, refused_at, answered_13}
 use Rattle.refutation.specs.declared.RefutationAnswer.{RefutationAnswer}
 use Rattle.refutation.specs.declared.RefutationAnswer.TheVariants.{Yes, StepRefused, NotClosed}
 use Rattle.refutation.proofs.Unique.{same_answer}
@@ -29,48 +26,37 @@ use Rattle.refutation.proofs.LazySteps.{Rule, Adding, answer_by, of_hints, hints
 -- ════════ For all words ════════
 
 module _ (x : Input) (i : ℕ) where
-  abbrev given : List Clause
-  given = clauses_of x.cnf
-
   abbrev steps : List Step
   steps = steps_of x.refutation
 
   -- Step i of the refutation, what its hints can name, and whether the rule accepts it.
   abbrev here : Step
-  here = get_or steps i (step [] [])
+  here = step_at steps i
 
   abbrev named_here : Lookup
-  named_here = clause_numbered (clauses_before given steps i)
+  named_here = clause_numbered (clauses_before (clauses_of x.cnf) steps i)
 
   abbrev accepted_here : ℕ → Bool
-  accepted_here = passes given steps
-
-  -- Yes, 13 and 14 come exactly where the steps are reached and give them.
-  abbrev ReachedHere : Type 0
-  ReachedHere = Reached x.variables x.cnf x.refutation (length x.numbers) (length x.clauses)
-
-  by_steps : (a : Answer) → judged a ≡ true
-      → (judge_cnf x.variables x.cnf x.refutation (length x.numbers) (length x.clauses) ≡ a) ↔ (ReachedHere × (judge_steps given steps ≡ a))
-  by_steps a of_steps = past_cnf a of_steps x.variables x.cnf x.refutation (length x.numbers) (length x.clauses)
+  accepted_here = accepted_at (clauses_of x.cnf) steps
 
   -- Both signs and no hints, and refused: document 01 as it was.
   pub refused_without_hints_breaks : both_signs here.clause ≡ true → empty here.hints ≡ true → Wrong x (StepRefused i)
   refused_without_hints_breaks b e numbers' clauses' j =
-      not_both (by_no_hints named_here here b ∙ e) ((steps_13 given steps i).0 ((by_steps (step_refused i) refl).0 (sym j.answered)).1).refused
+      not_both (by_no_hints named_here here b ∙ e) (refused_at x.variables x.cnf x.refutation _ _ i (sym j.answered)).1
 
   module _ (inside : i < length steps) where
     -- A step that the rule refuses: neither yes nor 14 meets the promise,
     passed_over_breaks : accepted_here i ≡ false → Wrong x Yes × ((n : ℕ) → Wrong x (NotClosed n))
     passed_over_breaks refused = (
-      λ numbers' clauses' j. not_both (((steps_yes given steps).0 ((by_steps (granted 0) refl).0 (sym j.answered)).1).0 i inside) refused,
-      λ n numbers' clauses' j. not_both (((steps_14 given steps n).0 ((by_steps (not_closed n) refl).0 (sym j.answered)).1).0 i inside) refused,
+      λ numbers' clauses' j. not_both (yes_accepts x.variables x.cnf x.refutation _ _ (sym j.answered) i inside) refused,
+      λ n numbers' clauses' j. not_both (open_accepts x.variables x.cnf x.refutation _ _ n (sym j.answered) i inside) refused,
     )
 
     -- and nothing but 13 at it where 16, 11 and 12 pass and the steps before it are accepted.
-    pub other_than_13_breaks : ReachedHere → ((h : ℕ) → h < i → accepted_here h ≡ true) → accepted_here i ≡ false → (r : RefutationAnswer) → ¬ (r ≡ StepRefused i) → Wrong x r
+    pub other_than_13_breaks : Reached x.variables x.cnf x.refutation (length x.numbers) (length x.clauses)
+        → ((h : ℕ) → h < i → accepted_here h ≡ true) → accepted_here i ≡ false → (r : RefutationAnswer) → ¬ (r ≡ StepRefused i) → Wrong x r
     other_than_13_breaks reached before refused r other numbers' clauses' j =
-        let first = (steps_13 given steps i).1 (record { within = inside; refused = refused; earlier_pass = before }) in
-        other (same_answer r (StepRefused i) (j.answered ∙ (by_steps (step_refused i) refl).1 (reached, first)))
+        other (same_answer r (StepRefused i) (j.answered ∙ answered_13 x.variables x.cnf x.refutation _ _ reached i inside before refused))
 
     -- Such a step is one with both signs and hints,
     pub refused_with_hints : both_signs here.clause ≡ true → empty here.hints ≡ false → accepted_here i ≡ false

@@ -13,7 +13,7 @@ use Rattle.answers.specs.Answers.{check, first_failing_part, granted, not_closed
 use Rattle.clauses.specs.Clauses.{Clause, minus, negated, same}
 use Rattle.clauses.specs.CnfWords.{clauses_of}
 use Rattle.clauses.specs.Refutations.{Step, steps_of, both_signs, clause_numbered, not_false, Outcome, conflict, unit, neither, outcome, step_accepted, step_checks, with_step, last_is_empty_after, judge_steps}
-use Rattle.refutation.specs.Promise.{refutation_answer}
+use Rattle.refutation.specs.Promise.{answer_of}
 use Rattle.refutation.specs.declared.RefutationAnswer.{RefutationAnswer}
 use Rattle.refutation.specs.declared.RefutationAnswer.TheVariants.{Yes, StepRefused, NotClosed}
 use Rattle.refutation.proofs.Lazy.{Input, Wrong, laid_down, wrong_number, over_t}
@@ -41,13 +41,13 @@ answer_by rule x = steps_by with_step rule (clauses_of x.cnf) 0 false (steps_of 
 abbrev pub the_rule : Rule
 the_rule cs i s ss = step_accepted (clause_numbered cs) s
 
-answer_cond : (b : Bool) (p q : RefutationAnswer) → refutation_answer (cond b p q) ≡ cond b (refutation_answer p) (refutation_answer q)
+answer_cond : (b : Bool) (p q : RefutationAnswer) → answer_of (cond b p q) ≡ cond b (answer_of p) (answer_of q)
 answer_cond true p q = refl
 answer_cond false p q = refl
 
 -- The checks of steps from number i on, with the closing check after them.
 steps_by_rule : (cs : List Clause) (i total : ℕ) (closed : Bool) (s : Step) (ss : List Step) → total ≡ suc i + length ss
-    → refutation_answer (steps_by with_step the_rule cs i closed (s ∷ ss))
+    → answer_of (steps_by with_step the_rule cs i closed (s ∷ ss))
     ≡ first_failing_part (step_checks cs i (s ∷ ss) ∷ (check (last_is_empty_after s ss) (not_closed total) ∷ []) ∷ []) (granted 0)
 steps_by_rule cs i total closed s [] e =
     let t : total ≡ suc i = omega arith in
@@ -56,7 +56,7 @@ steps_by_rule cs i total closed s (t ∷ ts) e =
     rw (answer_cond (step_accepted (clause_numbered cs) s), steps_by_rule (with_step cs s) (suc i) total (empty s.clause) t ts (omega arith))
 
 -- By the right rule the answer is the one laid down, so a wrong rule is all that is wrong below.
-pub the_rule_right : (cs : List Clause) (ss : List Step) → refutation_answer (steps_by with_step the_rule cs 0 false ss) ≡ judge_steps cs ss
+pub the_rule_right : (cs : List Clause) (ss : List Step) → answer_of (steps_by with_step the_rule cs 0 false ss) ≡ judge_steps cs ss
 unfolding judge_steps
 the_rule_right cs [] = refl
 the_rule_right cs (s ∷ ss) = steps_by_rule cs 0 (length (s ∷ ss)) false s ss (omega arith)

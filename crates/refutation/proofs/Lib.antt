@@ -8,7 +8,7 @@ pub mod PlaceCnf
 pub mod ClauseLiterals
 pub mod SetTrue
 pub mod SetFalse
-pub mod OutcomeLaws
+pub mod Find
 pub mod KnownClauses
 pub mod Accepted
 pub mod StepWords

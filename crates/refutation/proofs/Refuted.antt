@@ -9,10 +9,10 @@ use Rattle.clauses.specs.Clauses.{Assignment, Satisfies}
 use Rattle.clauses.specs.CnfWords.{clauses_of}
 use Rattle.refutation.specs.declared.RefutationAnswer.{RefutationAnswer}
 use Rattle.refutation.specs.declared.RefutationAnswer.TheVariants.{Yes}
-use Rattle.refutation.specs.Promise.{refutation_answer, Judged}
+use Rattle.refutation.specs.Promise.{answer_of, Judged}
 
 pub judged_refuted : {variables : ℕ} {cnf refutation : List ℤ} {numbers clauses : List ℕ} {r : RefutationAnswer} {numbers' clauses' : List ℕ}
     → Judged variables cnf refutation numbers clauses r numbers' clauses' → r ≡ Yes
     → (a : Assignment) → Satisfies a (clauses_of cnf) → ⊥
 judged_refuted {variables} {cnf} {refutation} {numbers} {clauses} j e =
-    refuted_cnf variables cnf refutation (length numbers) (length clauses) (sym j.answered ∙ ap refutation_answer e)
+    refuted_cnf variables cnf refutation (length numbers) (length clauses) (sym j.answered ∙ ap answer_of e)

@@ -12,7 +12,7 @@ use Rattle.refutation.specs.declared.RefutationAnswer.{RefutationAnswer}
 use Rattle.refutation.specs.declared.RefutationAnswer.TheVariants.{Yes, BadCnf, BadRefutation, AreaTooSmall, StepRefused, NotClosed}
 use Rattle.refutation.specs.declared.WordsCounted.{WordsCounted}
 use Rattle.refutation.specs.declared.WordsCounted.TheVariants.{Count, BadAt}
-use Rattle.refutation.specs.Promise.{refutation_answer, counted_answer, StepsCounted, Judged}
+use Rattle.refutation.specs.Promise.{answer_of, counted_answer, StepsCounted, Judged}
 
 -- The variant of an answer's number and place.
 abbrev variant_of : Answer → RefutationAnswer
@@ -22,7 +22,7 @@ variant_of a =
     (cond (eqb a.number 12) (AreaTooSmall a.place)
     (cond (eqb a.number 13) (StepRefused a.place) (cond (eqb a.number 14) (NotClosed a.place) Yes))))
 
-answered_back : (r : RefutationAnswer) → variant_of (refutation_answer r) ≡ r
+answered_back : (r : RefutationAnswer) → variant_of (answer_of r) ≡ r
 answered_back Yes = refl
 answered_back (BadCnf i) = refl
 answered_back (BadRefutation i) = refl
@@ -30,14 +30,14 @@ answered_back (AreaTooSmall n) = refl
 answered_back (StepRefused i) = refl
 answered_back (NotClosed n) = refl
 
-pub same_answer : (r r' : RefutationAnswer) → refutation_answer r ≡ refutation_answer r' → r ≡ r'
+pub same_answer : (r r' : RefutationAnswer) → answer_of r ≡ answer_of r' → r ≡ r'
 same_answer r r' e = sym (answered_back r) ∙ ap variant_of e ∙ answered_back r'
 
 module _ {variables : ℕ} {cnf refutation : List ℤ} {numbers clauses : List ℕ} {r r' : RefutationAnswer} {n n' c c' : List ℕ} where
   pub judged_unique : Judged variables cnf refutation numbers clauses r n c → Judged variables cnf refutation numbers clauses r' n' c'
       → (r ≡ r') × (n ≡ n') × (c ≡ c')
   judged_unique p q =
-      let e : refutation_answer r ≡ refutation_answer r' = p.answered ∙ sym q.answered in (
+      let e : answer_of r ≡ answer_of r' = p.answered ∙ sym q.answered in (
         same_answer r r' e,
         p.numbers_left ∙ ap (λ (a : Answer). area_after a (numbers_area variables) numbers) e ∙ sym q.numbers_left,
         p.clauses_left

@@ -9,13 +9,13 @@ use Rattle.refutation.specs.declared.WordsCounted.{WordsCounted}
 use Rattle.refutation.specs.declared.WordsCounted.TheVariants.{Count, BadAt}
 
 -- Document 01's number and place of each answer.
-abbrev pub refutation_answer : RefutationAnswer → Answer
-refutation_answer Yes = granted 0
-refutation_answer (BadCnf i) = bad_cnf i
-refutation_answer (BadRefutation i) = bad_refutation i
-refutation_answer (AreaTooSmall n) = area_too_small n
-refutation_answer (StepRefused i) = step_refused i
-refutation_answer (NotClosed n) = not_closed n
+abbrev pub answer_of : RefutationAnswer → Answer
+answer_of Yes = granted 0
+answer_of (BadCnf i) = bad_cnf i
+answer_of (BadRefutation i) = bad_refutation i
+answer_of (AreaTooSmall n) = area_too_small n
+answer_of (StepRefused i) = step_refused i
+answer_of (NotClosed n) = not_closed n
 
 -- Words that were checked: how many clauses or steps they are, or the refusal's place.
 abbrev pub counted_answer : (ℕ → Answer) → WordsCounted → Answer
@@ -35,6 +35,6 @@ StepsCounted variables clauses refutation r =
 
 -- The judge: its answer, and both work areas after it.
 pub record Judged (variables : ℕ) (cnf refutation : List ℤ) (numbers clauses : List ℕ) (r : RefutationAnswer) (numbers' clauses' : List ℕ) : Type 0 where
-  pub answered : refutation_answer r ≡ judge_cnf variables cnf refutation (length numbers) (length clauses)
-  pub numbers_left : numbers' ≡ area_after (refutation_answer r) (numbers_area variables) numbers
-  pub clauses_left : clauses' ≡ area_after (refutation_answer r) (clauses_area (clauses_of cnf) (steps_of refutation)) clauses
+  pub answered : answer_of r ≡ judge_cnf variables cnf refutation (length numbers) (length clauses)
+  pub numbers_left : numbers' ≡ area_after (answer_of r) (numbers_area variables) numbers
+  pub clauses_left : clauses' ≡ area_after (answer_of r) (clauses_area (clauses_of cnf) (steps_of refutation)) clauses

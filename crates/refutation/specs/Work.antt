@@ -4,8 +4,8 @@ use Rattle.answers.specs.Lists.{all_of}
 use Rattle.clauses.specs.Clauses.{Clause, Within, variable_of, literal_within, among}
 use Rattle.clauses.specs.CnfWords.{clauses_of, cnf_checks}
 use Rattle.clauses.specs.Refutations.{Outcome, conflict, unit, neither, steps_of, refutation_checks}
-use Rattle.refutation.specs.declared.values.ClauseOutcome.{ClauseOutcome}
-use Rattle.refutation.specs.declared.values.ClauseOutcome.TheVariants.{Conflict, Unit, Neither}
+use Rattle.refutation.specs.declared.values.Found.{Found}
+use Rattle.refutation.specs.declared.values.Found.TheVariants.{Conflict, Unit, Neither}
 
 -- ════════ Values by numbers ════════
 
@@ -38,10 +38,10 @@ pub record Marked (variables stamp : ℕ) (before after : List ℕ) : Type 0 whe
   pub not_later : Older variables (suc stamp) after
   pub past : drop (suc variables) after ≡ drop (suc variables) before
 
-abbrev pub outcome_given : ClauseOutcome → Outcome
-outcome_given Conflict = conflict
-outcome_given (Unit u) = unit u
-outcome_given Neither = neither
+abbrev pub outcome_found : Found → Outcome
+outcome_found Conflict = conflict
+outcome_found (Unit u) = unit u
+outcome_found Neither = neither
 
 -- ════════ Places by clauses ════════
 

@@ -1,12 +1,12 @@
 // Document 01's number and place of each answer.
 ghost use Rattle.std.specs.Prelude.{◌≡◌};
-ghost use Rattle.refutation.specs.Promise.{refutation_answer};
+ghost use Rattle.refutation.specs.Promise.{answer_of};
 
 use crate::RefutationAnswer;
 
 // The number of an answer in the table; 0 is yes.
 pub fn number(a: RefutationAnswer) -> u32
-    ensures { result ≡ (refutation_answer a).number }
+    ensures { result ≡ (answer_of a).number }
 {
     match a {
         RefutationAnswer::Yes => 0,
@@ -20,7 +20,7 @@ pub fn number(a: RefutationAnswer) -> u32
 
 // The place of an answer: a word, a length, the words needed, a step or the steps; of yes it is 0.
 pub fn place(a: RefutationAnswer) -> usize
-    ensures { result ≡ (refutation_answer a).place }
+    ensures { result ≡ (answer_of a).place }
 {
     match a {
         RefutationAnswer::Yes => 0,

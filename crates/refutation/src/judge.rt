@@ -3,7 +3,7 @@ ghost use Rattle.std.specs.Prelude.{◌≡◌, suc, ◌+◌, ◌<◌, ◌≤◌,
 ghost use Rattle.answers.specs.Lists.{written};
 ghost use Rattle.clauses.specs.CnfWords.{clauses_of};
 ghost use Rattle.clauses.specs.Refutations.{steps_of, judge_steps};
-ghost use Rattle.refutation.specs.Promise.{refutation_answer, Judged};
+ghost use Rattle.refutation.specs.Promise.{answer_of, Judged};
 ghost use Rattle.refutation.specs.Work.{CnfRight, StepsRight};
 
 use crate::places::place_cnf;
@@ -25,7 +25,7 @@ fn judge_counted<'a>(
     requires cnf_right { CnfRight variables cnf.now × (clauses ≡ length (clauses_of cnf.now)) }
     requires steps_right { StepsRight variables clauses refutation.now × (steps ≡ length (steps_of refutation.now)) }
     requires room { (variables < length values.old) × (clauses + steps ≤ length places.old) }
-    ensures answer { refutation_answer result ≡ judge_steps (clauses_of cnf.now) (steps_of refutation.now) }
+    ensures answer { answer_of result ≡ judge_steps (clauses_of cnf.now) (steps_of refutation.now) }
     ensures values { values.new ≡ written (replicate (suc variables) 0) values.old }
     ensures places { places.new ≡ written (replicate (clauses + steps) 0) places.old }
 {

@@ -3,12 +3,12 @@ ghost use Rattle.std.specs.Prelude.{◌≡◌, List, map, suc, ◌+◌, ◌<◌,
 ghost use Rattle.clauses.specs.Clauses.{variable_of};
 ghost use Rattle.clauses.specs.CnfWords.{clauses_of};
 ghost use Rattle.clauses.specs.Refutations.{clause_numbered, hint_outcome, step, steps_of, step_accepted, judge_steps};
-ghost use Rattle.refutation.specs.Promise.{refutation_answer};
-ghost use Rattle.refutation.specs.Work.{stamps_limit, LiteralsWithin, Older, Values, Marked, outcome_given, known, Standing, StepsRight};
+ghost use Rattle.refutation.specs.Promise.{answer_of};
+ghost use Rattle.refutation.specs.Work.{stamps_limit, LiteralsWithin, Older, Values, Marked, outcome_found, known, Standing, StepsRight};
 
 use crate::RefutationAnswer;
 use crate::places::{clause_at, lookup};
-use crate::values::{ClauseOutcome, clause_outcome, set_false, set_true};
+use crate::values::{Found, find, set_false, set_true};
 use clauses::literals::variable;
 
 // The stamp of the step that comes after so many: never 0, which is what a cleared word holds.
@@ -36,14 +36,14 @@ fn hint<'a>(
     number: usize,
     values: &[u64],
     places: &[u64],
-) -> ClauseOutcome
+) -> Found
     requires known { (1 ≤ number) × (number ≤ here.base + here.done) }
     requires standing { Standing here.limit cnf.now words.now here.base here.done places.now }
     requires room { here.limit < length values.now }
-    ensures { (trues : List ℤ) → Values here.limit (suc here.done) trues values.now → outcome_given result ≡ hint_outcome (clause_numbered (known cnf.now words.now here.done)) trues number }
+    ensures { (trues : List ℤ) → Values here.limit (suc here.done) trues values.now → outcome_found result ≡ hint_outcome (clause_numbered (known cnf.now words.now here.done)) trues number }
 {
     let clause = lookup(cnf, words, here.base, number, places);
-    clause_outcome(here.limit, stamp_after(here.done), clause, values)
+    find(here.limit, stamp_after(here.done), clause, values)
 }
 
 // Whether a step is accepted: one whose clause is trivially true exactly if it has no hints, any other by its hints.
@@ -71,9 +71,9 @@ fn accepted<'a>(
         let number = variable(hints[i]);
         i += 1;
         match hint(here, cnf, words, number, values, places) {
-            ClauseOutcome::Conflict => return i == hints.len(),
-            ClauseOutcome::Unit(w) => set_true(here.limit, stamp, w, values),
-            ClauseOutcome::Neither => return false,
+            Found::Conflict => return i == hints.len(),
+            Found::Unit(w) => set_true(here.limit, stamp, w, values),
+            Found::Neither => return false,
         }
     }
     false
@@ -92,7 +92,7 @@ pub(crate) fn judge_steps<'a>(
     requires standing { Standing limit cnf.now words.now base 0 places.old }
     requires older { Older limit 1 values.old }
     requires room { base + length (steps_of words.now) ≤ length places.old }
-    ensures answer { refutation_answer result ≡ judge_steps (clauses_of cnf.now) (steps_of words.now) }
+    ensures answer { answer_of result ≡ judge_steps (clauses_of cnf.now) (steps_of words.now) }
     ensures values { drop (suc limit) values.new ≡ drop (suc limit) values.old }
     ensures places { drop (base + length (steps_of words.now)) places.new ≡ drop (base + length (steps_of words.now)) places.old }
 {

@@ -3,13 +3,13 @@ ghost use Rattle.std.specs.Prelude.{◌≡◌, true, false, not, List, [], ◌�
 ghost use Rattle.answers.specs.Lists.{written};
 ghost use Rattle.clauses.specs.Clauses.{negated, variable_of, among};
 ghost use Rattle.clauses.specs.Refutations.{both_signs, outcome};
-ghost use Rattle.refutation.specs.Work.{stamps_limit, mark_of, cell, LiteralsWithin, Older, Values, Marked, outcome_given};
+ghost use Rattle.refutation.specs.Work.{stamps_limit, mark_of, cell, LiteralsWithin, Older, Values, Marked, outcome_found};
 
 use clauses::literals::variable;
 
 // What a hint's clause gives under the values so far.
 #[derive(Drop)]
-pub(crate) enum ClauseOutcome {
+pub(crate) enum Found {
     Conflict,
     Unit(i32),
     Neither,
@@ -80,14 +80,9 @@ fn is_false(stamp: u64, w: i32, area: &[u64]) -> bool
 }
 
 // What a clause gives under the values of a stamp.
-pub(crate) fn clause_outcome(
-    variables: usize,
-    stamp: u64,
-    clause: &[i32],
-    area: &[u64],
-) -> ClauseOutcome
+pub(crate) fn find(variables: usize, stamp: u64, clause: &[i32], area: &[u64]) -> Found
     requires { (stamp < stamps_limit) × LiteralsWithin variables clause.now × (variables < length area.now) }
-    ensures { (trues : List ℤ) → Values variables stamp trues area.now → outcome_given result ≡ outcome trues clause.now }
+    ensures { (trues : List ℤ) → Values variables stamp trues area.now → outcome_found result ≡ outcome trues clause.now }
 {
     let mut unit: i32 = 0;
     let mut i = 0;
@@ -95,11 +90,11 @@ pub(crate) fn clause_outcome(
         let w = clause[i];
         if !is_false(stamp, w, area) {
             if is_true(stamp, w, area) {
-                return ClauseOutcome::Neither;
+                return Found::Neither;
             }
             if unit != 0 {
                 if unit != w {
-                    return ClauseOutcome::Neither;
+                    return Found::Neither;
                 }
             }
             unit = w;
@@ -107,9 +102,9 @@ pub(crate) fn clause_outcome(
         i += 1;
     }
     if unit == 0 {
-        ClauseOutcome::Conflict
+        Found::Conflict
     } else {
-        ClauseOutcome::Unit(unit)
+        Found::Unit(unit)
     }
 }
 

@@ -8,7 +8,7 @@ use answers::numbers::one_if;
 const LARGEST_SIZE: usize = 18446744073709551615;
 
 // A sum that stops at the largest size.
-pub fn capped_sum(a: usize, b: usize) -> usize
+pub fn sum(a: usize, b: usize) -> usize
     ensures { result ≡ min (a + b) largest_size }
 {
     if b <= LARGEST_SIZE - a {
@@ -22,7 +22,7 @@ pub fn capped_sum(a: usize, b: usize) -> usize
 pub fn put_bytes(text: &[u8], at: usize, out: &mut [u8]) -> usize
     ensures { Puts text.now at out.old result out.new }
 {
-    let next = capped_sum(at, text.len());
+    let next = sum(at, text.len());
     if next <= out.len() {
         let mut i = 0;
         while i < text.len() {
@@ -68,7 +68,7 @@ fn fill_digits(n: usize, at: usize, end: usize, out: &mut [u8])
 pub fn put_number(n: usize, at: usize, out: &mut [u8]) -> usize
     ensures { Puts (decimal n) at out.old result out.new }
 {
-    let end = capped_sum(at, digits(n));
+    let end = sum(at, digits(n));
     if end <= out.len() {
         fill_digits(n, at, end, out);
     }
@@ -79,11 +79,11 @@ pub fn put_number(n: usize, at: usize, out: &mut [u8]) -> usize
 pub fn put_ended(n: usize, byte: u8, at: usize, out: &mut [u8]) -> usize
     ensures { Puts (decimal n ++ (byte ∷ [])) at out.old result out.new }
 {
-    let end = capped_sum(at, digits(n));
+    let end = sum(at, digits(n));
     if end < out.len() {
         fill_digits(n, at, end, out);
         out[end] = byte;
         return end + 1;
     }
-    capped_sum(end, 1)
+    sum(end, 1)
 }

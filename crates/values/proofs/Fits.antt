@@ -4,7 +4,7 @@ use borrow.Author.Tests.{lt-leb, not-true}
 use Rattle.answers.specs.Lists.{numbers, all_of}
 use Rattle.answers.proofs.Tests.{both_true, first_true, second_true, not_both, false_if_not_true, all_of_at, all_of_if_at}
 use Rattle.answers.specs.Limits.{inputs_limit, latches_limit, gates_limit, nodes_limit, bound_limit}
-use Rattle.meaning.specs.Problem.{Problem, Left, Node, node, constant, child, atom_node, both_node, either_node, next_node, until_node, release_node}
+use Rattle.meaning.specs.Problem.{Problem, Left, Node, node, constant, child, atom, both, either, next, until, release}
 use Rattle.meaning.specs.Proper.{LeftProper}
 use Rattle.meaning.specs.Formulas.{formula}
 use Rattle.meaning.specs.Bounded.{Shape, lasso}
@@ -54,20 +54,20 @@ module _ (n : ℕ) where
       (left_says a (first_true (left_earlier n a) (ltb b n) e), ltb-true b n (second_true (left_earlier n a) (ltb b n) e))
 
   earlier_says : (x : Node) → earlier n x ≡ true → Earlier n x
-  earlier_says (atom_node x) e = tt
-  earlier_says (both_node a b) e = two_say a b e
-  earlier_says (either_node a b) e = two_say a b e
-  earlier_says (next_node a) e = ltb-true a n e
-  earlier_says (until_node a b) e = left_two_say a b e
-  earlier_says (release_node a b) e = left_two_say a b e
+  earlier_says (atom x) e = tt
+  earlier_says (both a b) e = two_say a b e
+  earlier_says (either a b) e = two_say a b e
+  earlier_says (next a) e = ltb-true a n e
+  earlier_says (until a b) e = left_two_say a b e
+  earlier_says (release a b) e = left_two_say a b e
 
   earlier_if : (x : Node) → Earlier n x → earlier n x ≡ true
-  earlier_if (atom_node x) l = refl
-  earlier_if (both_node a b) l = both_true (lt-ltb a n l.0) (lt-ltb b n l.1)
-  earlier_if (either_node a b) l = both_true (lt-ltb a n l.0) (lt-ltb b n l.1)
-  earlier_if (next_node a) l = lt-ltb a n l
-  earlier_if (until_node a b) l = both_true (left_if a l.0) (lt-ltb b n l.1)
-  earlier_if (release_node a b) l = both_true (left_if a l.0) (lt-ltb b n l.1)
+  earlier_if (atom x) l = refl
+  earlier_if (both a b) l = both_true (lt-ltb a n l.0) (lt-ltb b n l.1)
+  earlier_if (either a b) l = both_true (lt-ltb a n l.0) (lt-ltb b n l.1)
+  earlier_if (next a) l = lt-ltb a n l
+  earlier_if (until a b) l = both_true (left_if a l.0) (lt-ltb b n l.1)
+  earlier_if (release a b) l = both_true (left_if a l.0) (lt-ltb b n l.1)
 
 module _ (p : Problem) where
   abbrev earlier_at : ℕ → Bool
@@ -153,25 +153,25 @@ module _ (p : Problem) (table : List Bool) where
 
 -- ════════ The value ════════
 
-module _ (p : Problem) (loop-byte : ℕ) (table : List Bool) where
-  pub value_unless_nodes : nodes_fit p ≡ false → false ≡ value_in p loop-byte table
+module _ (p : Problem) (first : ℕ) (table : List Bool) where
+  pub value_unless_nodes : nodes_fit p ≡ false → false ≡ value_in p first table
   unfolding value_in
   value_unless_nodes e = rw e
 
   module _ (nodes : nodes_fit p ≡ true) where
-    pub value_unless_loop_byte : p.bound + 1 < loop-byte → false ≡ value_in p loop-byte table
+    pub value_unless_first : p.bound + 1 < first → false ≡ value_in p first table
     unfolding value_in
-    value_unless_loop_byte h = rw (nodes, lt-leb loop-byte (p.bound + 1) h)
+    value_unless_first h = rw (nodes, lt-leb first (p.bound + 1) h)
 
-    module _ (h : loop-byte ≤ p.bound + 1) where
-      pub value_unless_rows : rows_fit p table ≡ false → false ≡ value_in p loop-byte table
+    module _ (h : first ≤ p.bound + 1) where
+      pub value_unless_rows : rows_fit p table ≡ false → false ≡ value_in p first table
       unfolding value_in
-      value_unless_rows e = rw (nodes, le-leb loop-byte (p.bound + 1) h, e)
+      value_unless_rows e = rw (nodes, le-leb first (p.bound + 1) h, e)
 
-      pub value_if_fit : rows_fit p table ≡ true → {s : Shape} → shape_of loop-byte ≡ s → {r : Bool}
-          → r ≡ bounded_value s p.bound (row_in table) (formula p) 0 → r ≡ value_in p loop-byte table
+      pub value_if_fit : rows_fit p table ≡ true → {s : Shape} → shape_of first ≡ s → {r : Bool}
+          → r ≡ bounded_value s p.bound (row_in table) (formula p) 0 → r ≡ value_in p first table
       unfolding value_in
-      value_if_fit e Shape-is r-is = rw (nodes, le-leb loop-byte (p.bound + 1) h, e, Shape-is) r-is
+      value_if_fit e Shape-is r-is = rw (nodes, le-leb first (p.bound + 1) h, e, Shape-is) r-is
 
 -- What the tests leave is what the passes ask.
 pub ready_if_fit : (s : Outline) (ws : List ℕ) (table : List Bool) → nodes_fit (problem_in s ws) ≡ true → rows_fit (problem_in s ws) table ≡ true

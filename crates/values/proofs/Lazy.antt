@@ -25,18 +25,18 @@ module _ (s : Outline) (ws : List ℕ) where
   ConstraintsBreak row r = ¬ (r ≡ all_of (literal_value row) p.constraints)
 
   abbrev pub ValueBreaks : ℕ → List Bool → Bool → Type 0
-  ValueBreaks loop-byte table r = ¬ (r ≡ value_in p loop-byte table)
+  ValueBreaks first table r = ¬ (r ≡ value_in p first table)
 
   -- ════════ Whatever the words ════════
 
   -- A loop that starts past k: l + 1 is more than k + 1.
-  pub start_past_k_breaks : (loop-byte : ℕ) (table : List Bool) → p.bound + 1 < loop-byte → ValueBreaks loop-byte table true
+  pub start_past_k_breaks : (first : ℕ) (table : List Bool) → p.bound + 1 < first → ValueBreaks first table true
   unfolding value_in
-  start_past_k_breaks loop-byte table h e =
-      let starts = leb loop-byte (p.bound + 1) in
+  start_past_k_breaks first table h e =
+      let starts = leb first (p.bound + 1) in
       let fit = nodes_fit p && starts in
       let roomy = fit && rows_fit p table in
-      not_both (second_true (nodes_fit p) starts (first_true fit (rows_fit p table) (first_true roomy _ (sym e)))) (lt-leb loop-byte (p.bound + 1) h)
+      not_both (second_true (nodes_fit p) starts (first_true fit (rows_fit p table) (first_true roomy _ (sym e)))) (lt-leb first (p.bound + 1) h)
 
   -- The first constraint is false, and only those after it are asked.
   pub first_constraint_left_out_breaks : (row : List Bool) (c : ℕ) (cs : List ℕ) → p.constraints ≡ c ∷ cs → literal_value row c ≡ false

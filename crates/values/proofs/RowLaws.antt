@@ -54,7 +54,7 @@ row_kept t n table table' h e =
     ∙ sym (part_of_take (t * row_width) row_width table)
 
 pub length_next_in : (p : Problem) (row : List Bool) → length (next_in p row) ≡ length p.latches
-length_next_in p row = length-map p.latches (λ (c : Latch). literal_value row c.next_literal)
+length_next_in p row = length-map p.latches (λ (c : Latch). literal_value row c.next)
 
 -- ════════ Rows that are right ════════
 
@@ -81,9 +81,9 @@ module _ {p : Problem} {bs : List ℕ} {n : ℕ} {table : List Bool} (right : Ro
 
   module _ (proper : Proper p) {t : ℕ} (h : t < n) where
     pub next_value_in : (i : ℕ) → i < length p.latches
-        → literal_value (row_in table t) (latch p i).next_literal ≡ get_or (next_values p (position p bs t)) i false
+        → literal_value (row_in table t) (latch p i).next ≡ get_or (next_values p (position p bs t)) i false
     unfolding next_values
-    next_value_in i q = literal_in_row h (latch p i).next_literal (proper.next_in_range i q) ∙ sym (next_by_row p (rows p bs t) i q)
+    next_value_in i q = literal_in_row h (latch p i).next (proper.next_in_range i q) ∙ sym (next_by_row p (rows p bs t) i q)
 
     -- The next values by the row are those at the position.
     pub next_are : next_in p (row_in table t) ≡ next_values p (position p bs t)

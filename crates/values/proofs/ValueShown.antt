@@ -32,19 +32,19 @@ module _ {p : Problem} (proper : Proper p) {bs : List ℕ} {table : List Bool} (
   zero_false t h = literal_in_row right {t = t} (omega arith) 0 (omega arith) ∙ values_zero_false p (position p bs) t
 
   -- Of a problem that is proper, over the rows of a run.
-  pub value_of_run : (loop-byte : ℕ) → loop-byte ≤ p.bound + 1
-      → value_in p loop-byte table ≡ bounded_value (shape_of loop-byte) p.bound (rows p bs) (formula p) 0
-  value_of_run loop-byte h =
-      sym (value_if_fit p loop-byte table (nodes_fit_if p nodes_there) h (rows_fit_if p table right.room zero_false) refl refl)
-      ∙ formula_same (children_earlier proper) proper.nodes_some (shape_of loop-byte) (start_within p loop-byte h) (row_in table) (rows p bs)
+  pub value_of_run : (first : ℕ) → first ≤ p.bound + 1
+      → value_in p first table ≡ bounded_value (shape_of first) p.bound (rows p bs) (formula p) 0
+  value_of_run first h =
+      sym (value_if_fit p first table (nodes_fit_if p nodes_there) h (rows_fit_if p table right.room zero_false) refl refl)
+      ∙ formula_same (children_earlier proper) proper.nodes_some (shape_of first) (start_within p first h) (row_in table) (rows p bs)
       zero_false (λ t q. values_zero_false p (position p bs) t)
       (λ n t l q x e. literal_in_row right {t = t} (omega arith) x (rw e at (proper.nodes_proper n l)))
 
 -- The same of the problem in words, by the bound of its outline.
 pub value_shown : {s : Outline} {ws bs : List ℕ} {table : List Bool} → ProperIn s ws → RowsRight (problem_in s ws) bs (s.bound + 1) table
-    → (loop-byte : ℕ) → loop-byte ≤ s.bound + 1
-    → value_in (problem_in s ws) loop-byte table
-    ≡ bounded_value (shape_of loop-byte) (problem_in s ws).bound (rows (problem_in s ws) bs) (formula (problem_in s ws)) 0
-value_shown {s} {ws} {bs} {table} good right loop-byte h =
+    → (first : ℕ) → first ≤ s.bound + 1
+    → value_in (problem_in s ws) first table
+    ≡ bounded_value (shape_of first) (problem_in s ws).bound (rows (problem_in s ws) bs) (formula (problem_in s ws)) 0
+value_shown {s} {ws} {bs} {table} good right first h =
     let bound_is : s.bound ≡ (problem_in s ws).bound = sym (shows s ws).bound_is in
-    value_of_run good.proper (subst (λ (k : ℕ). RowsRight (problem_in s ws) bs (k + 1) table) bound_is right) loop-byte (omega arith)
+    value_of_run good.proper (subst (λ (k : ℕ). RowsRight (problem_in s ws) bs (k + 1) table) bound_is right) first (omega arith)

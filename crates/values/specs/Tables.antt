@@ -1,13 +1,13 @@
 -- The tables of values: a row for each position of a run, and one for each node. Assumes nothing.
 use Rattle.std.specs.Prelude.{◌≡◌, ℕ, suc, ◌+◌, ◌*◌, ◌<◌, ◌≤◌, Bool, true, false, List, map, length, take, drop, slice_index_or}
 use Rattle.answers.specs.Limits.{inputs_limit, latches_limit, gates_limit, nodes_limit, bound_limit}
-use Rattle.meaning.specs.Problem.{Problem, Latch, W, Node, atom_node, both_node, either_node, next_node, until_node, release_node}
+use Rattle.meaning.specs.Problem.{Problem, Latch, W, Node, atom, both, either, next, until, release}
 use Rattle.meaning.specs.Runs.{literal_value}
 use Rattle.meaning.specs.Bounded.{Shape, prefix, lasso}
 use Rattle.meaning.specs.Witnesses.{rows}
 use Rattle.problem.specs.declared.Outline.{Outline}
 use Rattle.problem.specs.Promise.{problem_in}
-use Rattle.pairing.specs.NodeLaws.{Earlier, ChildrenEarlier, at_next, op_value, q_end_true, e_value}
+use Rattle.pairing.specs.NodeLaws.{Earlier, ChildrenEarlier, at_next, op_value, q_end, e_value}
 use Rattle.pairing.proofs.NodeValues.{p_of}
 use Rattle.values.specs.declared.nodes.Span.{Span}
 
@@ -31,7 +31,7 @@ given_width p = 1 + p.inputs + length p.latches
 
 -- The latches' next values by a row.
 abbrev pub next_in : Problem → List Bool → List Bool
-next_in p row = map (λ (c : Latch). literal_value row c.next_literal) p.latches
+next_in p row = map (λ (c : Latch). literal_value row c.next) p.latches
 
 -- The first n rows are the values of the run's first n positions.
 pub record RowsRight (p : Problem) (bs : List ℕ) (n : ℕ) (table : List Bool) : Type 0 where
@@ -85,12 +85,12 @@ op_in span rows t x i y = op_value span.last (row_in rows) (at_node t) (e_in (sh
 
 -- U and R alone go by the node's own next value.
 abbrev pub goes_on : Node → Bool
-goes_on (atom_node x) = false
-goes_on (both_node a b) = false
-goes_on (either_node a b) = false
-goes_on (next_node a) = false
-goes_on (until_node a b) = true
-goes_on (release_node a b) = true
+goes_on (atom x) = false
+goes_on (both a b) = false
+goes_on (either a b) = false
+goes_on (next a) = false
+goes_on (until a b) = true
+goes_on (release a b) = true
 
 -- The op x is over earlier nodes than n, which has a row.
 pub record PassReady (span : Span) (rows : List Bool) (n : ℕ) (x : Node) (t : List Bool) : Type 0 where
@@ -117,8 +117,8 @@ pub record PassWrote (span : Span) (rows : List Bool) (n : ℕ) (x : Node) (end 
 -- The end is that of any row that satisfies Q's law, where the op goes on; the rows before n's stay.
 pub record EndFound (span : Span) (rows : List Bool) (n : ℕ) (x : Node) (t t' : List Bool) (end : Bool) : Type 0 where
   pub below : SameBelow n t' t
-  pub found : goes_on x ≡ true → (q_true : ℕ → Bool)
-      → ((i : ℕ) → i ≤ span.last → q_true i ≡ op_in span rows t x i (at_next span.last q_true (q_end_true x) i)) → end ≡ e_value (shape_in span) q_true
+  pub found : goes_on x ≡ true → (Q : ℕ → Bool)
+      → ((i : ℕ) → i ≤ span.last → Q i ≡ op_in span rows t x i (at_next span.last Q (q_end x) i)) → end ≡ e_value (shape_in span) Q
 
 -- The rows of the nodes below n are the bounded meaning.
 pub record ValuesBelow (p : Problem) (span : Span) (rows t : List Bool) (n : ℕ) : Type 0 where

@@ -4,7 +4,7 @@ use Rattle.std.specs.Prelude.{ℕ, zero, suc, ◌+◌, ◌*◌, ◌%◌, ◌^◌
 use Rattle.std.specs.Bool.{beq}
 use Rattle.answers.specs.Lists.{numbers, all_of}
 use Rattle.answers.specs.Limits.{nodes_limit, bound_limit}
-use Rattle.meaning.specs.Problem.{Problem, Gate, latch, Left, Node, node, constant, child, atom_node, both_node, either_node, next_node, until_node, release_node}
+use Rattle.meaning.specs.Problem.{Problem, Gate, latch, Left, Node, node, constant, child, atom, both, either, next, until, release}
 use Rattle.meaning.specs.Runs.{gate_value, literal_value}
 use Rattle.meaning.specs.Formulas.{formula}
 use Rattle.meaning.specs.LassoValue.{bounded_value}
@@ -26,7 +26,7 @@ first_not f (suc n) = cond (f zero) (suc (first_not (λ i. f (suc i)) n)) zero
 
 -- Whether a latch's next value by a row is what another has for it, where the latches' places there begin with one.
 abbrev pub closed_at : Problem → List Bool → List Bool → ℕ → ℕ → Bool
-closed_at p row there at i = beq (literal_value row (latch p i).next_literal) (slice_index_or there (at + i) false)
+closed_at p row there at i = beq (literal_value row (latch p i).next) (slice_index_or there (at + i) false)
 
 -- The first latch of which that is not so.
 unfoldable pub first_open : Problem → List Bool → List Bool → ℕ → ℕ
@@ -46,12 +46,12 @@ left_earlier n (constant b) = true
 left_earlier n (child c) = nat_lt c n
 
 abbrev pub earlier : ℕ → Node → Bool
-earlier n (atom_node x) = true
-earlier n (both_node a b) = nat_lt a n && nat_lt b n
-earlier n (either_node a b) = nat_lt a n && nat_lt b n
-earlier n (next_node a) = nat_lt a n
-earlier n (until_node a b) = left_earlier n a && nat_lt b n
-earlier n (release_node a b) = left_earlier n a && nat_lt b n
+earlier n (atom x) = true
+earlier n (both a b) = nat_lt a n && nat_lt b n
+earlier n (either a b) = nat_lt a n && nat_lt b n
+earlier n (next a) = nat_lt a n
+earlier n (until a b) = left_earlier n a && nat_lt b n
+earlier n (release a b) = left_earlier n a && nat_lt b n
 
 -- Nodes and positions are within their limits, and each child is an earlier node.
 abbrev pub nodes_fit : Problem → Bool
@@ -66,10 +66,10 @@ abbrev pub rows_fit : Problem → List Bool → Bool
 rows_fit p table =
     (length table == rows_room) && all_of (λ t. not (slice_index_or (row_in table t) 0 false)) (numbers 0 (p.bound + 1))
 
--- The formula's value at position 0 over the rows of a table, for a loop byte, "0 for a prefix or l + 1"; false where these do not fit.
+-- The formula's value at position 0 over the rows of a table, for a first byte, "0 for a prefix or l + 1"; false where these do not fit.
 unfoldable pub value_in : Problem → ℕ → List Bool → Bool
-value_in p loop-byte table =
+value_in p first table =
     nodes_fit p
-    && nat_le loop-byte (p.bound + 1)
+    && nat_le first (p.bound + 1)
     && rows_fit p table
-    && bounded_value (shape_of loop-byte) p.bound (row_in table) (formula p) 0
+    && bounded_value (shape_of first) p.bound (row_in table) (formula p) 0

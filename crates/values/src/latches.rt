@@ -13,7 +13,7 @@ use problem::read::latch_next;
 
 // A latch's next value is that of its next literal.
 fn next_value(words: &[u32], s: Outline, row: &[bool], i: u32) -> bool
-    ensures { result ≡ literal_value row.now (latch (problem_in s words.now) i).next_literal }
+    ensures { result ≡ literal_value row.now (latch (problem_in s words.now) i).next }
 {
     literal(row, latch_next(words, s, i))
 }

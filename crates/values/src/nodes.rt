@@ -8,7 +8,7 @@ ghost use Rattle.meaning.specs.Proper.{LeftProper};
 ghost use Rattle.meaning.specs.Runs.{literal_value};
 ghost use Rattle.meaning.specs.Formulas.{formula};
 ghost use Rattle.meaning.specs.LassoValue.{bounded_value};
-ghost use Rattle.pairing.specs.NodeLaws.{left_value, at_next, q_end_true};
+ghost use Rattle.pairing.specs.NodeLaws.{left_value, at_next, q_end};
 ghost use Rattle.problem.specs.Promise.{problem_in, left_of, node_read};
 ghost use Rattle.values.specs.Tables.{RowThere, SpanRight, OpReady, PassReady, PassWrote, TablesReady, NodeReady, FormulaReady, EndFound, ValuesBelow, row_in, rows_room, nodes_room, at_node, e_in, op_in, goes_on, shape_in, shape_given};
 ghost use Rattle.values.specs.Values.{left_earlier, earlier, nodes_fit, rows_fit, value_in};
@@ -125,8 +125,8 @@ fn pass(node: Node, span: Span, rows: &[bool], n: u32, end: bool, t: &mut [bool]
 }
 
 // Q of a node past the last position.
-fn q_end(node: Node) -> bool
-    ensures { result ≡ q_end_true (node_read node) }
+fn second_end(node: Node) -> bool
+    ensures { result ≡ q_end (node_read node) }
 {
     match node {
         Node::Release(_, _) => true,
@@ -152,7 +152,7 @@ fn own_end(node: Node, span: Span, rows: &[bool], n: u32, t: &mut [bool]) -> boo
 {
     let lasso = span.lasso;
     if lasso & goes_on(node) {
-        pass(node, span, rows, n, q_end(node), t);
+        pass(node, span, rows, n, second_end(node), t);
         return end_value(t, n, span);
     }
     false
@@ -261,21 +261,21 @@ fn rows_fit(s: Outline, table: &[bool]) -> bool
     true
 }
 
-// "The last node is the formula": its value at position 0 over a table of rows, for the loop byte of a witness; false where words or table do not fit.
-pub fn formula_value(words: &[u32], s: Outline, loop_byte: usize, table: &[bool]) -> bool
-    ensures { result ≡ value_in (problem_in s words.now) loop_byte table.now }
+// "The last node is the formula": its value at position 0 over a table of rows, for a first byte of a witness; false where words or table do not fit.
+pub fn formula_value(words: &[u32], s: Outline, first: usize, table: &[bool]) -> bool
+    ensures { result ≡ value_in (problem_in s words.now) first table.now }
 {
     if !nodes_fit(words, s) {
         return false;
     }
-    if s.bound as usize + 1 < loop_byte {
+    if s.bound as usize + 1 < first {
         return false;
     }
     if !rows_fit(s, table) {
         return false;
     }
-    if loop_byte == 0 {
+    if first == 0 {
         return last_value(words, s, false, 0, table);
     }
-    last_value(words, s, true, loop_byte - 1, table)
+    last_value(words, s, true, first - 1, table)
 }

@@ -9,7 +9,7 @@ use Rattle.answers.specs.Lists.{numbers}
 use Rattle.answers.specs.Answers.{Answer, Check, first_failing}
 use Rattle.witness.specs.declared.WitnessAnswer.{WitnessAnswer}
 use Rattle.witness.specs.declared.WitnessAnswer.TheVariants.{Yes}
-use Rattle.witness.specs.Promise.{witness_answer_then, AnsweredBy}
+use Rattle.witness.specs.Promise.{answer_then, AnsweredBy}
 
 -- ════════ One check after another ════════
 
@@ -28,7 +28,7 @@ module _ {cs rest : List Check} (to : PassedUpTo cs rest) where
   pass_one is e = record { same = λ after. to.same after ∙ rw (is, e) }
 
   pub fail_one : {c : Check} {rest' : List Check} {r : WitnessAnswer} → rest ≡ c ∷ rest' → c.passes ≡ false
-      → ((after : Answer) → witness_answer_then r after ≡ c.otherwise) → AnsweredBy cs r
+      → ((after : Answer) → answer_then r after ≡ c.otherwise) → AnsweredBy cs r
   fail_one is e refused = record { answered = λ after. refused after ∙ sym (to.same after ∙ rw (is, e)) }
 
   pub pass_all : rest ≡ [] → AnsweredBy cs Yes

@@ -25,14 +25,14 @@ use Rattle.problem.specs.Promise.{problem_in, CheckedAs, refusal_answer}
 use Rattle.problem.proofs.Formed.{well_formed_if_good, refused_whatever}
 use Rattle.witness.specs.declared.WitnessAnswer.{WitnessAnswer}
 use Rattle.witness.specs.declared.WitnessAnswer.TheVariants as answers
-use Rattle.witness.specs.Promise.{witness_answer_then, witness_answer, AnsweredBy, byte_check}
+use Rattle.witness.specs.Promise.{answer_then, answer_of, AnsweredBy, byte_check}
 use Rattle.witness.specs.contracts.WitnessAnswer.{the_type}
 
 -- ════════ A yes or a refusal ════════
 
 -- What comes after a refusal does not matter.
 abbrev pub Refuses : WitnessAnswer → Type 0
-Refuses r = (a b : Answer) → witness_answer_then r a ≡ witness_answer_then r b
+Refuses r = (a b : Answer) → answer_then r a ≡ answer_then r b
 
 -- The code goes by the number of the variant, of which 0 is the yes.
 pub yes_if_first : (r : WitnessAnswer) → tag_of the_type r ≡ 0 → r ≡ answers.Yes
@@ -88,13 +88,13 @@ pub length_right : (p : Problem) (bs : List ℕ) {y : WitnessAnswer} → y ≡ a
 length_right p bs is a =
     eqb-true _ _ (first_true (eqb (length bs) (witness_length p)) (all_of passing (numbered 0 bs (byte_check p))) (all_pass (byte_checks p bs) is a))
 
-loop_byte_within : (p : Problem) (bs : List ℕ) → all_of passing (numbered 0 bs (byte_check p)) ≡ true → byte bs 0 ≤ p.bound + 1
-loop_byte_within p [] e = omega arith
-loop_byte_within p (b ∷ bs) e = leb-true _ _ (first_true (leb b (p.bound + 1)) (all_of passing (numbered 1 bs (byte_check p))) e)
+first_within : (p : Problem) (bs : List ℕ) → all_of passing (numbered 0 bs (byte_check p)) ≡ true → byte bs 0 ≤ p.bound + 1
+first_within p [] e = omega arith
+first_within p (b ∷ bs) e = leb-true _ _ (first_true (leb b (p.bound + 1)) (all_of passing (numbered 1 bs (byte_check p))) e)
 
 pub start_right : (p : Problem) (bs : List ℕ) {y : WitnessAnswer} → y ≡ answers.Yes → AnsweredBy (byte_checks p bs) y → byte bs 0 ≤ p.bound + 1
 start_right p bs is a =
-    loop_byte_within p bs
+    first_within p bs
     (second_true (eqb (length bs) (witness_length p)) (all_of passing (numbered 0 bs (byte_check p))) (all_pass (byte_checks p bs) is a))
 
 -- ════════ The whole ════════
@@ -109,7 +109,7 @@ from_loop p bs = loop_checks p bs (shape bs) ++ from_positions p bs
 abbrev pub from_resets : Problem → List ℕ → List Check
 from_resets p bs = reset_checks p bs ++ from_loop p bs
 
-pub judged : (p : Problem) (bs : List ℕ) {r : WitnessAnswer} → AnsweredBy (byte_checks p bs ++ from_resets p bs) r → witness_answer r ≡ judge_bytes p bs
+pub judged : (p : Problem) (bs : List ℕ) {r : WitnessAnswer} → AnsweredBy (byte_checks p bs ++ from_resets p bs) r → answer_of r ≡ judge_bytes p bs
 unfolding judge_bytes
 judged p bs a =
     a.answered (granted 0)

@@ -15,7 +15,7 @@ use Rattle.meaning.specs.Cases.{t_words, H}
 use Rattle.problem.specs.declared.Refusal.TheVariants.{BadVersion, BadReset}
 use Rattle.witness.specs.declared.WitnessAnswer.{WitnessAnswer}
 use Rattle.witness.specs.declared.WitnessAnswer.TheVariants.{Yes, Problem, BadWitness, AgainstReset, OpenLoop, FormulaFalse}
-use Rattle.witness.specs.Promise.{witness_answer}
+use Rattle.witness.specs.Promise.{answer_of}
 use Rattle.witness.proofs.Unique.{judgement_unique}
 
 -- ════════ What it is to break the promise ════════
@@ -34,7 +34,7 @@ laid_down x = judge_witness x.version x.words x.bytes
 
 -- This answer meets the promise for the input, or does not.
 abbrev pub Meets : Input → WitnessAnswer → Type 0
-Meets x r = witness_answer r ≡ judge_witness x.version x.words x.bytes
+Meets x r = answer_of r ≡ judge_witness x.version x.words x.bytes
 
 abbrev pub Wrong : Input → WitnessAnswer → Type 0
 Wrong x r = ¬ (Meets x r)
@@ -44,10 +44,10 @@ module _ (x : Input) (r : WitnessAnswer) (meets : Meets x x.right) where
   pub other : ¬ (r ≡ x.right) → Wrong x r
   other h e = h (judgement_unique x.version x.words x.bytes r x.right e meets)
 
-  pub other_number : ¬ ((witness_answer r).number ≡ (witness_answer x.right).number) → Wrong x r
+  pub other_number : ¬ ((answer_of r).number ≡ (answer_of x.right).number) → Wrong x r
   other_number h e = h (number_of (e ∙ sym meets))
 
-  pub other_place : ¬ ((witness_answer r).place ≡ (witness_answer x.right).place) → Wrong x r
+  pub other_place : ¬ ((answer_of r).place ≡ (answer_of x.right).place) → Wrong x r
   other_place h e = h (place_of (e ∙ sym meets))
 
 -- Words and bytes under the known version, and the right answer.

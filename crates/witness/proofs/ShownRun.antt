@@ -45,7 +45,7 @@ module _ {s : Outline} {ws bs : List ℕ} {table : List Bool} (run : RunShown s 
 
   -- Its next value at k is that of its next literal there.
   pub next_at_end : (i : ℕ) → i < s.latches
-      → literal_value (row_in table s.bound) (latch (problem_in s ws) i).next_literal
+      → literal_value (row_in table s.bound) (latch (problem_in s ws) i).next
       ≡ get_or (next_values (problem_in s ws) (position (problem_in s ws) bs (problem_in s ws).bound)) i false
   next_at_end i q =
       let z = sizes in

@@ -8,7 +8,7 @@ use Rattle.meaning.specs.Calls.{judge_witness}
 use Rattle.problem.specs.declared.Refusal.TheVariants.{BadVersion, BadLength, OutsideLimits, BadReset, BadLiteral, BadNode}
 use Rattle.witness.specs.declared.WitnessAnswer.{WitnessAnswer}
 use Rattle.witness.specs.declared.WitnessAnswer.TheVariants as answers
-use Rattle.witness.specs.Promise.{witness_answer}
+use Rattle.witness.specs.Promise.{answer_of}
 
 abbrev yes : ℕ → WitnessAnswer
 yes p = answers.Yes
@@ -34,7 +34,7 @@ by_number =
 abbrev answer_back : Answer → WitnessAnswer
 answer_back a = get_or by_number a.number answers.ConstraintBroken a.place
 
-answer_back_of : (r : WitnessAnswer) → answer_back (witness_answer r) ≡ r
+answer_back_of : (r : WitnessAnswer) → answer_back (answer_of r) ≡ r
 answer_back_of answers.Yes = refl
 answer_back_of (answers.Problem BadVersion) = refl
 answer_back_of (answers.Problem (BadLength n)) = refl
@@ -48,6 +48,6 @@ answer_back_of (answers.OpenLoop i) = refl
 answer_back_of (answers.ConstraintBroken t) = refl
 answer_back_of answers.FormulaFalse = refl
 
-pub judgement_unique : (version : ℕ) (ws bs : List ℕ) (r r' : WitnessAnswer) → witness_answer r ≡ judge_witness version ws bs
-    → witness_answer r' ≡ judge_witness version ws bs → r ≡ r'
+pub judgement_unique : (version : ℕ) (ws bs : List ℕ) (r r' : WitnessAnswer) → answer_of r ≡ judge_witness version ws bs
+    → answer_of r' ≡ judge_witness version ws bs → r ≡ r'
 judgement_unique version ws bs r r' e e' = sym (answer_back_of r) ∙ ap answer_back (e ∙ sym e') ∙ answer_back_of r'

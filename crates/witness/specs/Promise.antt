@@ -8,21 +8,21 @@ use Rattle.witness.specs.declared.WitnessAnswer.{WitnessAnswer}
 use Rattle.witness.specs.declared.WitnessAnswer.TheVariants.{Yes, Problem, BadWitness, AgainstReset, OpenLoop, ConstraintBroken, FormulaFalse}
 
 -- The documents' number and place of each refusal; a yes leaves the answer to what comes after.
-abbrev pub witness_answer_then : WitnessAnswer → Answer → Answer
-witness_answer_then Yes after = after
-witness_answer_then (Problem f) after = refusal_answer f
-witness_answer_then (BadWitness i) after = bad_witness i
-witness_answer_then (AgainstReset i) after = against_reset i
-witness_answer_then (OpenLoop i) after = open_loop i
-witness_answer_then (ConstraintBroken t) after = constraint_broken t
-witness_answer_then FormulaFalse after = formula_false 0
+abbrev pub answer_then : WitnessAnswer → Answer → Answer
+answer_then Yes after = after
+answer_then (Problem f) after = refusal_answer f
+answer_then (BadWitness i) after = bad_witness i
+answer_then (AgainstReset i) after = against_reset i
+answer_then (OpenLoop i) after = open_loop i
+answer_then (ConstraintBroken t) after = constraint_broken t
+answer_then FormulaFalse after = formula_false 0
 
-abbrev pub witness_answer : WitnessAnswer → Answer
-witness_answer r = witness_answer_then r (granted 0)
+abbrev pub answer_of : WitnessAnswer → Answer
+answer_of r = answer_then r (granted 0)
 
 -- A part of the judge answers for its checks, whatever comes after them.
 pub record AnsweredBy (cs : List Check) (r : WitnessAnswer) : Type 0 where
-  pub answered : (after : Answer) → witness_answer_then r after ≡ first_failing cs after
+  pub answered : (after : Answer) → answer_then r after ≡ first_failing cs after
 
 -- 7, of one byte.
 abbrev pub byte_check : problems.Problem → ℕ → ℕ → Check

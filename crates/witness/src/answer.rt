@@ -1,12 +1,12 @@
 // The documents' number and place of each answer to a witness.
 ghost use Rattle.std.specs.Prelude.{◌≡◌};
-ghost use Rattle.witness.specs.Promise.{witness_answer};
+ghost use Rattle.witness.specs.Promise.{answer_of};
 
 use crate::WitnessAnswer;
 use problem::answer::{refusal_number, refusal_place};
 
 pub fn number(a: WitnessAnswer) -> u32
-    ensures { result ≡ (witness_answer a).number }
+    ensures { result ≡ (answer_of a).number }
 {
     match a {
         WitnessAnswer::Yes => 0,
@@ -20,7 +20,7 @@ pub fn number(a: WitnessAnswer) -> u32
 }
 
 pub fn place(a: WitnessAnswer) -> usize
-    ensures { result ≡ (witness_answer a).place }
+    ensures { result ≡ (answer_of a).place }
 {
     match a {
         WitnessAnswer::Yes => 0,

@@ -82,13 +82,13 @@ pub(crate) fn closes(words: &[u32], s: Outline, witness: &[u8], table: &[bool]) 
     requires { RunShown s words.now witness.now table.now }
     ensures { AnsweredBy (loop_checks (problem_in s words.now) witness.now (shape witness.now)) result }
 {
-    let loop_byte = witness[0] as usize;
-    if loop_byte == 0 {
+    let first = witness[0] as usize;
+    if first == 0 {
         return WitnessAnswer::Yes;
     }
     let last = (s.bound as usize) * ROW_WIDTH;
     let end = last + ROW_WIDTH;
-    let from = (loop_byte - 1) * ROW_WIDTH + INPUTS_AT + (s.inputs as usize);
+    let from = (first - 1) * ROW_WIDTH + INPUTS_AT + (s.inputs as usize);
     let open = first_open(words, s, &table[last..end], table, from);
     if open < s.latches {
         return WitnessAnswer::OpenLoop(open as usize);

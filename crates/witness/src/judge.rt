@@ -4,7 +4,7 @@ ghost use Rattle.meaning.specs.Witnesses.{shape, loop_checks, position_checks, f
 ghost use Rattle.meaning.specs.Calls.{judge_bytes, judge_witness};
 ghost use Rattle.problem.specs.Promise.{problem_in, ProperIn};
 ghost use Rattle.witness.specs.ShownRun.{RunShown};
-ghost use Rattle.witness.specs.Promise.{AnsweredBy, witness_answer};
+ghost use Rattle.witness.specs.Promise.{AnsweredBy, answer_of};
 
 use crate::WitnessAnswer;
 use crate::bytes::{bytes_right, closes, constraints, resets};
@@ -27,8 +27,8 @@ fn shown(words: &[u32], s: Outline, witness: &[u8], table: &[bool]) -> WitnessAn
     let WitnessAnswer::Yes = by_constraints else {
         return by_constraints;
     };
-    let loop_byte = witness[0] as usize;
-    if !formula_value(words, s, loop_byte, table) {
+    let first = witness[0] as usize;
+    if !formula_value(words, s, first, table) {
         return WitnessAnswer::FormulaFalse;
     }
     WitnessAnswer::Yes
@@ -37,7 +37,7 @@ fn shown(words: &[u32], s: Outline, witness: &[u8], table: &[bool]) -> WitnessAn
 // 7, 8, 9, 20, 10, of a good problem.
 fn judge_good(words: &[u32], s: Outline, witness: &[u8]) -> WitnessAnswer
     requires { ProperIn s words.now }
-    ensures { witness_answer result ≡ judge_bytes (problem_in s words.now) witness.now }
+    ensures { answer_of result ≡ judge_bytes (problem_in s words.now) witness.now }
 {
     let by_bytes = bytes_right(s, witness);
     let WitnessAnswer::Yes = by_bytes else {
@@ -54,7 +54,7 @@ fn judge_good(words: &[u32], s: Outline, witness: &[u8]) -> WitnessAnswer
 
 // 15, 1 to 5, 7 to 10 and 20, or yes.
 pub fn judge(version: u32, words: &[u32], witness: &[u8]) -> WitnessAnswer
-    ensures { witness_answer result ≡ judge_witness version words.now witness.now }
+    ensures { answer_of result ≡ judge_witness version words.now witness.now }
 {
     let checked = check(version, words);
     match checked {

@@ -32,16 +32,16 @@ module _ (c : tie.After-more) where
   abbrev count : ℕ
   count = c.more.given.0.0
 
-  in_chunk : count ≤ length (one_read c).read-part.new.1.0
+  in_chunk : count ≤ length (one_read c).read_part.new.1.0
   in_chunk =
-      let read = (one_read c).read-part in
+      let read = (one_read c).read_part in
       let count-in = bytes_within c.more.given.1 read.ensures in
       let kept = read.kept.1.0 in
       omega arith
 
   in_buffer : (entry c).args.at + count ≤ length (entry c).args.buf.now
   in_buffer =
-      let read = (one_read c).read-part in
+      let read = (one_read c).read_part in
       let count-in = bytes_within c.more.given.1 read.ensures in
       let kept = read.kept.1.0 in
       omega arith
@@ -78,7 +78,7 @@ part_put_bytes_start c = search rules
 part_put_bytes_end : tie.Need-slice-bounds-put-bytes-end
 part_put_bytes_end c =
     let t = bytes_read c in
-    joined_long (one_read t).read-part.last.1.0 _ (in_chunk t)
+    joined_long (one_read t).read_part.last.1.0 _ (in_chunk t)
 
 put_bytes_requires : tie.Need-put-bytes-requires
 put_bytes_requires c κs = search rules

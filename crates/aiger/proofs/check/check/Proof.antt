@@ -15,20 +15,20 @@ use Rattle.aiger.proofs.check.check.Tie as tie
 
 -- ════════ The points, and what is known there ════════
 
-abbrev words : tie.After-first-refusal → List ℕ
+abbrev words : tie.After-then → List ℕ
 words c = c.before.before.before.before.args.words.now
 
-abbrev opening : tie.After-first-refusal → List (List Check)
+abbrev opening : tie.After-then → List (List Check)
 opening c = header_checks (words c) ∷ limit_checks (words c) ∷ []
 
-abbrev after : tie.After-first-refusal → List (List Check)
+abbrev after : tie.After-then → List (List Check)
 after c = sized_parts (sizes (words c)) (words c)
 
-opened : (c : tie.After-first-refusal) → Answers (opening c) c.first-refusal.result
-opened c = c.first-refusal.ensures.answers _ _ c.before.before.header.ensures c.before.limits.ensures
+opened : (c : tie.After-then) → Answers (opening c) c.then.result
+opened c = c.then.ensures.answers _ _ c.before.before.header.ensures c.before.limits.ensures
 
 passed : (c : tie.After-enum-told) → Answers (opening c.before.before) Passed
-passed c = answers_by (is_passed c.before.before.first-refusal.result c.before.match.keys1) (opened c.before.before)
+passed c = answers_by (is_passed c.before.before.then.result c.before.match.keys1) (opened c.before.before)
 
 -- ════════ The needs ════════
 
@@ -38,8 +38,8 @@ header_requires c κs = search rules
 limits_requires : tie.Need-limits-requires
 limits_requires c κs = search rules
 
-first_refusal_requires : tie.Need-first-refusal-requires
-first_refusal_requires c κs = search rules
+then_requires : tie.Need-then-requires
+then_requires c κs = search rules
 
 enum_told : tie.Need-enum-told
 enum_told c = search rules
@@ -71,7 +71,7 @@ check_spec =
     (tie.spec
     header_requires
     limits_requires
-    first_refusal_requires
+    then_requires
     enum_told
     sizes_requires
     sized_requires

@@ -12,20 +12,20 @@ limit_requires c κs = search rules
 limit_requires_2 : tie.Need-limit-requires-2
 limit_requires_2 c κs = search rules
 
-first_refusal_requires : tie.Need-first-refusal-requires
-first_refusal_requires c κs = search rules
+then_requires : tie.Need-then-requires
+then_requires c κs = search rules
 
 limit_requires_3 : tie.Need-limit-requires-3
 limit_requires_3 c κs = search rules
 
-first_refusal_requires_2 : tie.Need-first-refusal-requires-2
-first_refusal_requires_2 c κs = search rules
+then_requires_2 : tie.Need-then-requires-2
+then_requires_2 c κs = search rules
 
 limit_requires_4 : tie.Need-limit-requires-4
 limit_requires_4 c κs = search rules
 
-first_refusal_requires_3 : tie.Need-first-refusal-requires-3
-first_refusal_requires_3 c κs = search rules
+then_requires_3 : tie.Need-then-requires-3
+then_requires_3 c κs = search rules
 
 returns : tie.Need-returns
 unfolding inputs_limit latches_limit gates_limit outputs_limit
@@ -38,7 +38,7 @@ returns c =
     let gates = to-gates.before.limit3.ensures in
     let outputs = c.before.limit4.ensures in
     as_one (limit_checks first.before.before.args.words.now)
-    (c.first-refusal3.ensures.answers _ _ (to-gates.first-refusal2.ensures.answers _ _ (to_latches.first-refusal.ensures.answers _ _ inputs latches) gates) outputs)
+    (c.then3.ensures.answers _ _ (to-gates.then2.ensures.answers _ _ (to_latches.then.ensures.answers _ _ inputs latches) gates) outputs)
 
 pub limits_spec : {M : Type 1} → statement M
 limits_spec =
@@ -46,9 +46,9 @@ limits_spec =
     (tie.spec
     limit_requires
     limit_requires_2
-    first_refusal_requires
+    then_requires
     limit_requires_3
-    first_refusal_requires_2
+    then_requires_2
     limit_requires_4
-    first_refusal_requires_3
+    then_requires_3
     returns)

@@ -41,12 +41,12 @@ all c = count_of (start c).args.kind (sizes_of (start c).args.s)
 
 -- The turn's number is that of a line.
 below : (c : tie.In-loop invariant_loop decreases_loop) → c.before.loop.i < all c.before
-below c = rw c.before.before.number_of.ensures at c.loop_test.true
+below c = rw c.before.before.count.ensures at c.loop_test.true
 
 -- ════════ The needs ════════
 
-number_of_requires : tie.Need-number-of-requires invariant_loop decreases_loop
-number_of_requires c κs = search rules
+count_requires : tie.Need-count-requires invariant_loop decreases_loop
+count_requires c κs = search rules
 
 loop_holds : tie.Need-loop-init invariant_loop decreases_loop
 loop_holds c =
@@ -94,7 +94,7 @@ same_length_2 c = c.before.loop.invariant.2
 returns_2 : tie.Need-returns-2 invariant_loop decreases_loop
 returns_2 c =
     let at = c.before in
-    let count = at.before.number_of in
+    let count = at.before.count in
     let passed : at.loop.i ≡ all at = omega (arith, count.ensures, c.loop_test.false, at.loop.invariant.1) in
     all_read (due at) at.loop.i at.loop.invariant.0 (all at) passed
 
@@ -104,7 +104,7 @@ lines_spec =
     (tie.spec
     invariant_loop
     decreases_loop
-    number_of_requires
+    count_requires
     loop_holds
     same_length
     returns

@@ -24,8 +24,8 @@ abbrev name_of : tie.After-spaced4 → tie.After-name
 name_of c = (m_of c).before.before
 
 -- What is due for a size.
-abbrev size_due : ℕ → List Reader
-size_due most = space ∷ at_most most ∷ []
+abbrev size : ℕ → List Reader
+size most = space ∷ at_most most ∷ []
 
 -- The table has a place for the last of them.
 room_left : {f₀ f₁ f₂ f₃ f₄ l l₀ : ℕ} → 5 ≤ l₀ → f₀ ≡ 0 → f₁ ≤ f₀ + 1 → f₂ ≤ f₁ + 1 → f₃ ≤ f₂ + 1 → f₄ ≤ f₃ + 1 → l ≡ l₀ → f₄ < l
@@ -74,10 +74,10 @@ returns c =
     let m = m_of outputs in
     let named = name_of outputs in
     read_on (named.name.ensures.0 _)
-    (all_followed (size_due largest_number) m.spaced.ensures
-    (all_followed (size_due inputs_limit) inputs.spaced2.ensures
-    (all_followed (size_due latches_limit) latches.spaced3.ensures
-    (all_followed (size_due outputs_limit) outputs.spaced4.ensures gates.spaced5.ensures))))
+    (all_followed (size largest_number) m.spaced.ensures
+    (all_followed (size inputs_limit) inputs.spaced2.ensures
+    (all_followed (size latches_limit) latches.spaced3.ensures
+    (all_followed (size outputs_limit) outputs.spaced4.ensures gates.spaced5.ensures))))
 
 pub opening_spec : {M : Type 1} → statement M
 opening_spec =

@@ -10,8 +10,8 @@ use Rattle.answers.specs.Limits.{longest_text, inputs_limit, latches_limit, outp
 use Rattle.aiger.specs.Circuits as circuits
 use Rattle.aiger.specs.Circuits.{words_in_all}
 use Rattle.aiger.specs.Texts.{in_order}
-use Rattle.aiger.specs.Reads.{sizes_of, numbers_kept, LinesRight}
-use Rattle.aiger.specs.declared.read.LinesRead.TheVariants.{Good}
+use Rattle.aiger.specs.Reads.{sizes_of, numbers_kept, Judged}
+use Rattle.aiger.specs.declared.read.Judgement.TheVariants.{Good}
 use Rattle.aiger.proofs.KeptNumbers.{in_order_length}
 use Rattle.aiger.proofs.ReadLaws.{judged_by, Table, kept_fit, answer_fault, answer_long, answer_room, answer_done}
 use Rattle.aiger.proofs.read.read.Statement.{statement}
@@ -19,20 +19,20 @@ use Rattle.aiger.proofs.read.read.Tie as tie
 
 -- ════════ The points, and what is known there ════════
 
-abbrev judged : tie.After-s → tie.After-read-lines
+abbrev judged : tie.After-s → tie.After-judge
 judged c = c.before.before.before
 
-abbrev start : tie.After-read-lines → tie.Start
+abbrev start : tie.After-judge → tie.Start
 start c = c.before.before.before.before
 
-abbrev text : tie.After-read-lines → List ℕ
+abbrev text : tie.After-judge → List ℕ
 text c = (start c).args.text.now
 
-abbrev room : tie.After-read-lines → List ℕ
+abbrev room : tie.After-judge → List ℕ
 room c = (start c).args.room.now
 
-abbrev table : tie.After-read-lines → List ℕ
-table c = c.read-lines.new.1.0
+abbrev table : tie.After-judge → List ℕ
+table c = c.judge.new.1.0
 
 -- Where the lines are good.
 abbrev sizes : tie.After-s → circuits.Sizes
@@ -41,12 +41,12 @@ sizes c = sizes_of c.s.given.0.0
 abbrev words : tie.After-s → List ℕ
 words c = in_order (sizes c) (take (numbers_kept (sizes c)) (table (judged c)))
 
-good : (c : tie.After-s) → LinesRight (text (judged c)) (Good c.s.given.0.0) (table (judged c))
-good c = judged_by c.s.given.1 (judged c).read-lines.ensures
+good : (c : tie.After-s) → Judged (text (judged c)) (Good c.s.given.0.0) (table (judged c))
+good c = judged_by c.s.given.1 (judged c).judge.ensures
 
-tabled : (c : tie.After-read-lines) → Table (length (table c))
+tabled : (c : tie.After-judge) → Table (length (table c))
 unfolding inputs_limit latches_limit outputs_limit gates_limit
-tabled c = omega (arith, c.read-lines.auto.1.0)
+tabled c = omega (arith, c.judge.auto.1.0)
 
 kept : (c : tie.After-s) → numbers_kept (sizes c) ≤ length (table (judged c))
 kept c = kept_fit (sizes c) _ (good c).judged.0 (tabled (judged c))
@@ -56,12 +56,12 @@ words_counted c = in_order_length (sizes c) _ (length-take-le _ _ (kept c))
 
 -- ════════ The needs ════════
 
-slice_aggregate_read_lines : tie.Need-slice-aggregate-read-lines
-slice_aggregate_read_lines c = search rules
+slice_aggregate_judge : tie.Need-slice-aggregate-judge
+slice_aggregate_judge c = search rules
 
-read_lines_requires : tie.Need-read-lines-requires
+judge_requires : tie.Need-judge-requires
 unfolding inputs_limit latches_limit outputs_limit gates_limit
-read_lines_requires c κs = omega arith
+judge_requires c κs = omega arith
 
 enum_known_s : tie.Need-enum-known-s
 enum_known_s c = search rules
@@ -72,7 +72,7 @@ enum_known_place c = search rules
 returns : tie.Need-returns
 returns c =
     let called = c.before.before.before.before in
-    answer_fault (text called) (room called) (judged_by c.before.place.given.1 called.read-lines.ensures).judged
+    answer_fault (text called) (room called) (judged_by c.before.place.given.1 called.judge.ensures).judged
 
 returns_2 : tie.Need-returns-2
 unfolding longest_text
@@ -121,8 +121,8 @@ pub read_spec : {M : Type 1} → statement M
 read_spec =
     tie.close
     (tie.spec
-    slice_aggregate_read_lines
-    read_lines_requires
+    slice_aggregate_judge
+    judge_requires
     enum_known_s
     enum_known_place
     returns

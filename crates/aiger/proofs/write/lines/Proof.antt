@@ -29,8 +29,8 @@ turn c = c.before.before.before
 abbrev line_at : tie.Start invariant_loop decreases_loop → ℕ → List ℕ
 line_at c = line_of c.args.kind (sizes_of c.args.s) c.args.words.now
 
-number_of_requires : tie.Need-number-of-requires invariant_loop decreases_loop
-number_of_requires c κs = search rules
+count_requires : tie.Need-count-requires invariant_loop decreases_loop
+count_requires c κs = search rules
 
 loop_holds : tie.Need-loop-init invariant_loop decreases_loop
 loop_holds c =
@@ -40,10 +40,10 @@ loop_holds c =
 line_requires : tie.Need-line-requires invariant_loop decreases_loop
 line_requires c κs =
     let test = c.before in
-    ((start test.before).pre, omega (arith, test.loop_test.true, test.before.before.number_of.ensures))
+    ((start test.before).pre, omega (arith, test.loop_test.true, test.before.before.count.ensures))
 
 add_i : tie.Need-overflow-add-i invariant_loop decreases_loop
-add_i c = let t = turn c.before.before in omega (arith, t.before.number_of.ok)
+add_i c = let t = turn c.before.before in omega (arith, t.before.count.ok)
 
 loop_less : tie.Need-loop-smaller invariant_loop decreases_loop
 loop_less c = omega arith
@@ -61,7 +61,7 @@ returns : tie.Need-returns invariant_loop decreases_loop
 returns c =
     let t = c.before in
     let s = start t in
-    let all : t.loop.i ≡ count_of s.args.kind (sizes_of s.args.s) = omega (arith, t.before.number_of.ensures) in
+    let all : t.loop.i ≡ count_of s.args.kind (sizes_of s.args.s) = omega (arith, t.before.count.ensures) in
     laid_all (line_at s) all t.loop.invariant.1
 
 pub lines_spec : {M : Type 1} → statement M
@@ -70,7 +70,7 @@ lines_spec =
     (tie.spec
     invariant_loop
     decreases_loop
-    number_of_requires
+    count_requires
     loop_holds
     line_requires
     add_i

@@ -9,7 +9,7 @@ use Rattle.checker.proofs.judge.judge_written.Statement.{statement}
 use Rattle.checker.proofs.judge.judge_written.Tie as tie
 
 -- The call of the judge.
-abbrev call : tie.After-answer-for-problem → tie.After-judge
+abbrev call : tie.After-refuted → tie.After-judge
 call c = c.before.before.before.before.before
 
 slice_aggregate_cnf : tie.Need-slice-aggregate-cnf
@@ -24,8 +24,8 @@ cast_judge c = omega (arith, variables_few c.before.before.before.before.require
 judge_requires : tie.Need-judge-requires
 judge_requires c κs = search rules
 
-answer_for_problem_requires : tie.Need-answer-for-problem-requires
-answer_for_problem_requires c κs = search rules
+refuted_requires : tie.Need-refuted-requires
+refuted_requires c κs = search rules
 
 same_length : tie.Need-same-length
 same_length c = search rules
@@ -34,7 +34,7 @@ same_length_2 : tie.Need-same-length-2
 same_length_2 c = search rules
 
 returns : tie.Need-returns
-returns c = λ p held. rw c.answer_for_problem.ensures (judged_for held (call c).judge.ensures)
+returns c = λ p held. rw c.refuted.ensures (judged_for held (call c).judge.ensures)
 
 pub judge_written_spec : {M : Type 1} → statement M
 judge_written_spec =
@@ -43,7 +43,7 @@ judge_written_spec =
     slice_aggregate_cnf
     cast_judge
     judge_requires
-    answer_for_problem_requires
+    refuted_requires
     same_length
     same_length_2
     returns)

@@ -1,28 +1,27 @@
 -- `total_in` meets its contract. Assumes nothing.
 use native.Mathlib.Omega.{arith}
 use Rattle.counts.specs.Promise.{tally_of}
-use Rattle.counts.proofs.Within.{countable_told}
-use Rattle.counts.proofs.Fit.{SmallProducts, small_products}
+use Rattle.counts.proofs.Fit.{few_told, SmallProducts, small_products}
 use Rattle.counts.proofs.total.total_in.Statement.{statement}
 use Rattle.counts.proofs.total.total_in.Tie as tie
 
 small : (c : tie.Start) → SmallProducts (tally_of c.args.t) c.args.w
-small c = small_products (countable_told (tally_of c.args.t) c.requires.0) c.requires.1
+small c = small_products (few_told (tally_of c.args.t) c.requires.0) c.requires.1
 
 mul_equal : tie.Need-overflow-mul-equal
 mul_equal c = omega (arith, small c)
 
-mul_junction : tie.Need-overflow-mul-junction
-mul_junction c = omega (arith, small c)
+mul_or : tie.Need-overflow-mul-or
+mul_or c = omega (arith, small c)
 
-add_junction : tie.Need-overflow-add-junction
-add_junction c = omega (arith, small c)
+add_or : tie.Need-overflow-add-or
+add_or c = omega (arith, small c)
 
-mul_unfolding : tie.Need-overflow-mul-unfolding
-mul_unfolding c = omega (arith, small c)
+mul_until : tie.Need-overflow-mul-until
+mul_until c = omega (arith, small c)
 
-add_unfolding : tie.Need-overflow-add-unfolding
-add_unfolding c = omega (arith, small c)
+add_until : tie.Need-overflow-add-until
+add_until c = omega (arith, small c)
 
 mul_selected : tie.Need-overflow-mul-selected
 mul_selected c = omega (arith, small c)
@@ -43,7 +42,7 @@ mul_resets_item : tie.Need-overflow-mul-resets-item
 mul_resets_item c = omega (arith, small c)
 
 sub_steps_item : tie.Need-overflow-sub-steps-item
-sub_steps_item c = omega (arith, (countable_told (tally_of c.args.t) c.requires.0).0.positions_some)
+sub_steps_item c = omega (arith, (few_told (tally_of c.args.t) c.requires.0).positions_some)
 
 mul_steps_item : tie.Need-overflow-mul-steps-item
 mul_steps_item c = omega (arith, small c)
@@ -58,7 +57,7 @@ mul_closing_item_2 : tie.Need-overflow-mul-closing-item-2
 mul_closing_item_2 c = omega (arith, small c)
 
 sub_selectors_item : tie.Need-overflow-sub-selectors-item
-sub_selectors_item c = omega (arith, (countable_told (tally_of c.args.t) c.requires.0).0.positions_some)
+sub_selectors_item c = omega (arith, (few_told (tally_of c.args.t) c.requires.0).positions_some)
 
 mul_selectors_item : tie.Need-overflow-mul-selectors-item
 mul_selectors_item c = omega (arith, small c)
@@ -143,10 +142,10 @@ total_in_spec =
     tie.close
     (tie.spec
     mul_equal
-    mul_junction
-    add_junction
-    mul_unfolding
-    add_unfolding
+    mul_or
+    add_or
+    mul_until
+    add_until
     mul_selected
     mul_gates_item
     mul_gates_item_2

@@ -2,13 +2,12 @@
 use mathlib.Core.Path.{refl}
 use native.Mathlib.Omega.{arith}
 use Rattle.counts.specs.Promise.{tally_of}
-use Rattle.counts.proofs.Within.{countable_told}
-use Rattle.counts.proofs.Fit.{SmallVariables, small_variables}
+use Rattle.counts.proofs.Fit.{few_told, SmallVariables, small_variables}
 use Rattle.counts.proofs.total.variables_in.Statement.{statement}
 use Rattle.counts.proofs.total.variables_in.Tie as tie
 
 small : (c : tie.Start) → SmallVariables (tally_of c.args.t)
-small c = small_variables (countable_told (tally_of c.args.t) c.requires)
+small c = small_variables (few_told (tally_of c.args.t) c.requires)
 
 add_circuit : tie.Need-overflow-add-circuit
 add_circuit c = omega (arith, small c)

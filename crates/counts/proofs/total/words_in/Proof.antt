@@ -2,21 +2,19 @@
 use mathlib.Core.Path.{refl}
 use Prim.Native.Nat.{suc}
 use native.Mathlib.Omega.{arith}
-use Rattle.answers.specs.Limits.{bound_limit}
 use Rattle.counts.specs.Promise.{tally_of}
-use Rattle.counts.proofs.Within.{EachWithin, countable_told}
+use Rattle.counts.proofs.Fit.{Few, few_told}
 use Rattle.counts.proofs.total.words_in.Statement.{statement}
 use Rattle.counts.proofs.total.words_in.Tie as tie
 
-fits : (c : tie.Start) → EachWithin (tally_of c.args.t)
-fits c = (countable_told (tally_of c.args.t) c.requires).0
+fits : (c : tie.Start) → Few (tally_of c.args.t)
+fits c = few_told (tally_of c.args.t) c.requires
 
 add_long : tie.Need-overflow-add-long
-unfolding bound_limit
-add_long c = omega (arith, (fits c.before).positions_within)
+add_long c = omega (arith, (fits c.before).positions_few)
 
 total_in_requires : tie.Need-total-in-requires
-total_in_requires c κs = (c.before.requires, omega (arith, (fits c.before).positions_within))
+total_in_requires c κs = (c.before.requires, omega (arith, (fits c.before).positions_few))
 
 returns : tie.Need-returns
 returns c = c.total-in.ensures suc (record { one_is = refl; two_is = refl; three_is = refl; long_is = omega arith })

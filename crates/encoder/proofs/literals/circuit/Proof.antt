@@ -8,28 +8,28 @@ use Rattle.encoder.proofs.literals.circuit.Tie as tie
 abbrev start : tie.After-struct-known → tie.Start
 start c = c.before.before
 
-number_fits : (c : tie.After-struct-known) → 1 + (start c).args.t * (start c).args.s.width + (start c).args.v < 2 ^ 31
-number_fits c = circuit_size (start c).requires.0 _ _ (start c).requires.1 (start c).requires.2
+size : (c : tie.After-struct-known) → 1 + (start c).args.t * (start c).args.s.width + (start c).args.v < 2 ^ 31
+size c = circuit_size (start c).requires.0 _ _ (start c).requires.1 (start c).requires.2
 
 mul_result : tie.Need-overflow-mul-result
-mul_result c = omega (arith, number_fits c)
+mul_result c = omega (arith, size c)
 
 add_result : tie.Need-overflow-add-result
-add_result c = omega (arith, number_fits c)
+add_result c = omega (arith, size c)
 
 add_result_2 : tie.Need-overflow-add-result-2
-add_result_2 c = omega (arith, number_fits c)
+add_result_2 c = omega (arith, size c)
 
 cast_result : tie.Need-overflow-cast-result
-cast_result c = omega (arith, number_fits c)
+cast_result c = omega (arith, size c)
 
 returns : tie.Need-returns
 returns c = record { is = λ p z. rw c.if1.true; negatable = omega arith }
 
 returns_2 : tie.Need-returns-2
 returns_2 c = record {
-  is = λ p z. rw (pos_word (number_fits c)) (circuit_some z _ _ c.before.if1.false);
-  negatable = pos_negatable (number_fits c);
+  is = λ p z. rw (pos_word (size c)) (circuit_some z _ _ c.before.if1.false);
+  negatable = pos_negatable (size c);
 }
 
 pub circuit_spec : {M : Type 1} → statement M

@@ -9,29 +9,29 @@ use Rattle.encoder.proofs.literals.selector.Tie as tie
 abbrev start : tie.After-struct-known2 → tie.Start
 start c = c.before.before
 
-number_fits : (c : tie.After-struct-known2) → ((start c).args.s.bound + 1) * (start c).args.s.width + 2 + (start c).args.l < 2 ^ 31
-number_fits c = selector_size (start c).requires.0 _ (start c).requires.1
+size : (c : tie.After-struct-known2) → ((start c).args.s.bound + 1) * (start c).args.s.width + 2 + (start c).args.l < 2 ^ 31
+size c = selector_size (start c).requires.0 _ (start c).requires.1
 
 add_result : tie.Need-overflow-add-result
 unfolding bound_limit
 add_result c = omega arith
 
 mul_result : tie.Need-overflow-mul-result
-mul_result c = omega (arith, number_fits c)
+mul_result c = omega (arith, size c)
 
 add_result_2 : tie.Need-overflow-add-result-2
-add_result_2 c = omega (arith, number_fits c)
+add_result_2 c = omega (arith, size c)
 
 add_result_3 : tie.Need-overflow-add-result-3
-add_result_3 c = omega (arith, number_fits c)
+add_result_3 c = omega (arith, size c)
 
 cast_result : tie.Need-overflow-cast-result
-cast_result c = omega (arith, number_fits c)
+cast_result c = omega (arith, size c)
 
 returns : tie.Need-returns
 returns c = record {
-  is = λ p z. rw (pos_word (number_fits c), z.width_is, z.bound_is);
-  negatable = pos_negatable (number_fits c);
+  is = λ p z. rw (pos_word (size c), z.width_is, z.bound_is);
+  negatable = pos_negatable (size c);
 }
 
 pub selector_spec : {M : Type 1} → statement M

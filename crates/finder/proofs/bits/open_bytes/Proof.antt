@@ -33,7 +33,7 @@ module _ (p : Problem) {bits : ℕ} (i : ℕ) (below : i < length p.latches) (so
   -- One latch more, free or not.
   one_more : {b : Bool} → is_free (latch p i) ≡ b → bits + cond b 1 0 ≡ counted p (i + 1)
   one_more e =
-      rw (add-one i, take-suc p.latches i (record { next_literal = 0; reset = 2 }) below)
+      rw (add-one i, take-suc p.latches i (record { next = 0; reset = 2 }) below)
       (omega (arith, those_more is_free (take i p.latches) (latch p i), ap {B = ℕ} (λ t. cond t 1 0) e))
 
   free_more : {r : ℕ} → r ≡ (latch p i).reset → r ≡ 2 → bits + 1 ≡ counted p (i + 1)

@@ -49,7 +49,7 @@ kept : (c : tie.At-loop invariant_loop decreases_loop) → length c.loop.room �
 kept c =
     let filled = run_filled (latches_put c).before in
     let begin = began c in
-    room_kept begin.pre.0.proper filled.fill.ensures begin.args.best.loop_byte begin.args.room.now begin.pre.2 (sizes begin)
+    room_kept begin.pre.0.proper filled.fill.ensures begin.args.best.first begin.args.room.now begin.pre.2 (sizes begin)
     (latches_put c).put.ensures c.loop.invariant.1 c.loop.invariant.0
 
 -- The inputs of a turn have their places in the room.
@@ -137,7 +137,7 @@ returns c =
     let l = c.before.before in
     let filled = run_filled (latches_put l).before in
     let begin = began l in
-    room_written begin.pre.0.proper filled.fill.ensures begin.args.best.loop_byte begin.args.room.now begin.pre.2 (sizes begin)
+    room_written begin.pre.0.proper filled.fill.ensures begin.args.best.first begin.args.room.now begin.pre.2 (sizes begin)
     (latches_put l).put.ensures l.loop.invariant.1 l.loop.invariant.0 c.if1.false
 
 pub write_spec : {M : Type 1} → statement M

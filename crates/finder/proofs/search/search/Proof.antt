@@ -21,11 +21,11 @@ use Rattle.finder.proofs.search.search.Tie as tie
 
 -- The best of the runs passed, and tables of the right size.
 abbrev invariant_loop : tie.invariant_loop
-invariant_loop words s runs loop-byte₀ found₀ run₀ table₀ m₀ loop-byte found run table m =
-    (m ≤ runs) × BestOf (problem_in s words) m (record { loop_byte = loop-byte; run = found }) × Held run × (length table ≡ rows_room)
+invariant_loop words s runs first₀ found₀ run₀ table₀ m₀ first found run table m =
+    (m ≤ runs) × BestOf (problem_in s words) m (record { first = first; run = found }) × Held run × (length table ≡ rows_room)
 
 abbrev decreases_loop : tie.decreases_loop
-decreases_loop words s runs loop-byte₀ found₀ run₀ table₀ m₀ loop-byte found run table m = runs - m
+decreases_loop words s runs first₀ found₀ run₀ table₀ m₀ first found run table m = runs - m
 
 -- ════════ The points ════════
 
@@ -44,9 +44,9 @@ run_left c = ltb-true _ _ (first_true (ltb c.before.loop.m (start c.before).args
 
 -- ════════ The needs ════════
 
-add_loop_byte : tie.Need-overflow-add-loop-byte invariant_loop decreases_loop
+add_first : tie.Need-overflow-add-first invariant_loop decreases_loop
 unfolding bound_limit
-add_loop_byte c = omega (arith, bound_small c.before.before.requires)
+add_first c = omega (arith, bound_small c.before.before.requires)
 
 loop_holds : tie.Need-loop-init invariant_loop decreases_loop
 unfolding inputs_limit latches_limit gates_limit bound_limit row_width positions_limit given_limit
@@ -94,7 +94,7 @@ search_spec =
     (tie.spec
     invariant_loop
     decreases_loop
-    add_loop_byte
+    add_first
     loop_holds
     slice_aggregate_tried
     tried_requires

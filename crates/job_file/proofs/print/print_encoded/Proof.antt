@@ -14,7 +14,7 @@ use Rattle.job_file.specs.JobFile.{refusal_line}
 use Rattle.counts.specs.declared.Counts.{Counts}
 use Rattle.encoder.specs.declared.Encoded.{Encoded}
 use Rattle.encoder.specs.declared.Encoded.TheVariants.{Written, Problem, RoomTooSmall}
-use Rattle.encoder.specs.Promise.{encoded_answer}
+use Rattle.encoder.specs.Promise.{answer_of}
 use Rattle.encoder.specs.contracts.Encoded.{the_type}
 use Rattle.job_file.specs.Text.{encoded_text}
 use Rattle.job_file.proofs.Prints.{prints_as, line_by}
@@ -22,7 +22,7 @@ use Rattle.job_file.proofs.print.print_encoded.Statement.{statement}
 use Rattle.job_file.proofs.print.print_encoded.Tie as tie
 
 -- Of every outcome but the first the refusal's line is printed.
-refused : (r : Encoded) (room : List ℤ) → OneOf (1 ∷ 2 ∷ []) (tag_of the_type r) → refusal_line (encoded_answer r) ≡ encoded_text r room
+refused : (r : Encoded) (room : List ℤ) → OneOf (1 ∷ 2 ∷ []) (tag_of the_type r) → refusal_line (answer_of r) ≡ encoded_text r room
 refused (Written n) room t = absurd (go t)
   where
     go : OneOf (1 ∷ 2 ∷ []) 0 → ⊥
@@ -32,7 +32,7 @@ refused (Problem f) room t = refl
 refused (RoomTooSmall n) room t = refl
 
 -- The words written lie in the room.
-within_room : (room : List ℤ) {r : Encoded} {n : Counts} → r ≡ Written n → ((encoded_answer r).number ≡ 0 → (encoded_answer r).place ≤ length room) → n.words ≤ length room
+within_room : (room : List ℤ) {r : Encoded} {n : Counts} → r ≡ Written n → ((answer_of r).number ≡ 0 → (answer_of r).place ≤ length room) → n.words ≤ length room
 within_room room e h = (rw e at h) refl
 
 -- The points: the CNF was written, its text is put; or it was not, and the line is put.
@@ -85,7 +85,7 @@ returns_2 c =
     let placed = refusal put in
     let told = placed.before.before in
     let args = told.before.before.args in
-    prints_as (line_by (encoded_answer args.r) placed.before.number.ensures placed.place.ensures ∙ refused args.r args.room.now told.match.keys2)
+    prints_as (line_by (answer_of args.r) placed.before.number.ensures placed.place.ensures ∙ refused args.r args.room.now told.match.keys2)
     put.refusal-text.ensures
 
 pub print_encoded_spec : {M : Type 1} → statement M

@@ -10,18 +10,18 @@ use Rattle.text.specs.Promise.{largest_size}
 use Rattle.text.proofs.Buffers.{room_next, put_then}
 use Rattle.job_file.specs.JobFile.{header_line}
 use Rattle.job_file.specs.Text.{words_text, flat_text}
-use Rattle.job_file.specs.Promise.{bytes_needed}
+use Rattle.job_file.specs.Promise.{size}
 use Rattle.job_file.proofs.Prints.{prints_short, fits_by_size, prints_bytes}
 use Rattle.job_file.proofs.texts.cnf_text.Statement.{statement}
 use Rattle.job_file.proofs.texts.cnf_text.Tie as tie
 
-size_of_flat : (v c : ℕ) (ws : List ℤ) {h w n : ℕ} → h ≡ length (header_line v c) → w ≡ bytes_needed (words_text ws)
-    → n ≡ min (h + w) largest_size → n ≡ bytes_needed (flat_text v c ws)
+size_of_flat : (v c : ℕ) (ws : List ℤ) {h w n : ℕ} → h ≡ length (header_line v c) → w ≡ size (words_text ws)
+    → n ≡ min (h + w) largest_size → n ≡ size (flat_text v c ws)
 unfolding flat_text
 size_of_flat v c ws p q r = omega (arith, length-append (header_line v c) (words_text ws))
 
 -- The points: the size is known, the text fits, its header is put.
-abbrev start : tie.After-capped-sum → tie.Start
+abbrev start : tie.After-sum → tie.Start
 start c = c.before.before.before.before
 
 abbrev entry : tie.Else1 → tie.Start
@@ -49,18 +49,18 @@ header_size_requires c κs = search rules
 words_size_requires : tie.Need-words-size-requires
 words_size_requires c κs = search rules
 
-capped_sum_requires : tie.Need-capped-sum-requires
-capped_sum_requires c κs = search rules
+sum_requires : tie.Need-sum-requires
+sum_requires c κs = search rules
 
-needed : (c : tie.After-capped-sum) → c.capped-sum.result ≡ bytes_needed (text (start c))
+needed : (c : tie.After-sum) → c.sum.result ≡ size (text (start c))
 needed c =
     let args = (start c).args in
-    size_of_flat args.variables args.clauses args.cnf.now c.before.before.header_size.ensures c.before.words_size.ensures c.capped-sum.ensures
+    size_of_flat args.variables args.clauses args.cnf.now c.before.before.header_size.ensures c.before.words_size.ensures c.sum.ensures
 
 returns : tie.Need-returns
 returns c =
     let s = start c.before in
-    prints_short (text s) s.args.out.now c.before.capped-sum.result (needed c.before) c.if1.true
+    prints_short (text s) s.args.out.now c.before.sum.result (needed c.before) c.if1.true
 
 slice_aggregate_put_line : tie.Need-slice-aggregate-put-line
 slice_aggregate_put_line c = search rules
@@ -72,7 +72,7 @@ slice_aggregate_put_line_2 c = search rules
 fits : (c : tie.Else1) → length (text (entry c)) ≤ length (entry c).args.out.now
 fits c =
     let s = entry c in
-    fits_by_size (text s) s.args.out.now c.before.capped-sum.result (needed c.before) c.if1.false s.good.1.1.1.0.1
+    fits_by_size (text s) s.args.out.now c.before.sum.result (needed c.before) c.if1.false s.good.1.1.1.0.1
 
 fits_both : (c : tie.Else1) → 0 + length (header (entry c) ++ words (entry c)) ≤ length (entry c).args.out.now
 unfolding flat_text
@@ -105,7 +105,7 @@ cnf_text_spec =
     (tie.spec
     header_size_requires
     words_size_requires
-    capped_sum_requires
+    sum_requires
     returns
     slice_aggregate_put_line
     slice_aggregate_put_line_2

@@ -6,14 +6,14 @@ use lib.IntN.{pos}
 use lib.ListN.{length, get_or, take}
 use lib.Seq.{take-length}
 use Rattle.job_file.specs.Text.{word_text, words_text}
-use Rattle.job_file.specs.Promise.{bytes_needed}
+use Rattle.job_file.specs.Promise.{size}
 use Rattle.clauses.proofs.Signs.{word_is}
 use Rattle.job_file.proofs.WordsText.{size_more}
 use Rattle.job_file.proofs.texts.words_size.Statement.{statement}
 use Rattle.job_file.proofs.texts.words_size.Tie as tie
 
 abbrev invariant_loop : tie.invariant_loop
-invariant_loop cnf bytes₀ i₀ bytes i = (i ≤ length cnf) × (bytes ≡ bytes_needed (words_text (take i cnf)))
+invariant_loop cnf bytes₀ i₀ bytes i = (i ≤ length cnf) × (bytes ≡ size (words_text (take i cnf)))
 
 abbrev decreases_loop : tie.decreases_loop
 decreases_loop cnf bytes₀ i₀ bytes i = length cnf - i
@@ -34,8 +34,8 @@ shared_slice_copy_out_word_size c = omega arith
 word_size_requires : tie.Need-word-size-requires invariant_loop decreases_loop
 word_size_requires c κs = tt
 
-capped_sum_requires : tie.Need-capped-sum-requires invariant_loop decreases_loop
-capped_sum_requires c κs = tt
+sum_requires : tie.Need-sum-requires invariant_loop decreases_loop
+sum_requires c κs = tt
 
 add_i : tie.Need-overflow-add-i invariant_loop decreases_loop
 add_i c = omega arith
@@ -50,7 +50,7 @@ loop_again c =
     let cnf = t.before.args.cnf.now in
     let word = word_is (get_or cnf t.loop.i (pos 0)) (record { sfits = read.word-size-arg.given }) in (
       omega arith,
-      c.capped-sum.ensures
+      c.sum.ensures
           ∙ size_more cnf t.loop.i read.before.loop_test.true t.loop.bytes c.before.word_size.result t.loop.inv.1
           (c.before.word_size.ensures ∙ ap (λ w. length (word_text w)) word),
     )
@@ -72,7 +72,7 @@ words_size_spec =
     mul_word_size
     shared_slice_copy_out_word_size
     word_size_requires
-    capped_sum_requires
+    sum_requires
     add_i
     loop_less
     loop_again

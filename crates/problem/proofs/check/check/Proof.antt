@@ -1,30 +1,31 @@
 -- `check` meets its contract: each answer is that of the first part that refuses. Assumes nothing.
 use borrow.Author.Rules.{rules}
+use mathlib.Core.Path.{◌∙◌}
 use mathlib.Core.List.{List}
 use Prim.Native.Nat.{ℕ}
 use Rattle.problem.specs.declared.parts.PartAnswer.TheVariants.{Passed}
 use Rattle.problem.specs.CheckParts.{Answers}
 use Rattle.problem.proofs.Answered.{is_passed, answers_by}
-use Rattle.problem.proofs.Counted.{tally_is}
+use Rattle.problem.proofs.Counted.{counts_with}
 use Rattle.problem.proofs.Formed.{opening, in_limits_if_passed, nodes_as_written, refused_by_opening, refused_by_parts, proper_by_parts, good_by_parts}
 use Rattle.problem.proofs.check.check.Statement.{statement}
 use Rattle.problem.proofs.check.check.Tie as tie
 
 -- ════════ The points, and what is known there ════════
 
-abbrev words : tie.After-first-refusal → List ℕ
+abbrev words : tie.After-then → List ℕ
 words c = c.before.before.before.before.args.words.now
 
-abbrev version : tie.After-first-refusal → ℕ
+abbrev version : tie.After-then → ℕ
 version c = c.before.before.before.before.args.version
 
 -- What the header and its limits answered.
-opened : (c : tie.After-first-refusal) → Answers (opening (version c) (words c)) c.first-refusal.result
-opened c = c.first-refusal.ensures.answers _ _ c.before.before.header.ensures c.before.limits.ensures
+opened : (c : tie.After-then) → Answers (opening (version c) (words c)) c.then.result
+opened c = c.then.ensures.answers _ _ c.before.before.header.ensures c.before.limits.ensures
 
 -- Past the first test they passed.
 passed : (c : tie.After-enum-told) → Answers (opening (version c.before.before) (words c.before.before)) Passed
-passed c = answers_by (is_passed c.before.before.first-refusal.result c.before.match.keys2) (opened c.before.before)
+passed c = answers_by (is_passed c.before.before.then.result c.before.match.keys2) (opened c.before.before)
 
 -- The outline that the parts were checked by.
 abbrev outlined : tie.After-parts → tie.After-outline
@@ -38,8 +39,8 @@ header_requires c κs = search rules
 limits_requires : tie.Need-limits-requires
 limits_requires c κs = search rules
 
-first_refusal_requires : tie.Need-first-refusal-requires
-first_refusal_requires c κs = search rules
+then_requires : tie.Need-then-requires
+then_requires c κs = search rules
 
 enum_known_opening : tie.Need-enum-known-opening
 enum_known_opening c = search rules
@@ -79,8 +80,7 @@ returns_2 c =
     let passed-parts = is_passed walked.parts.result.answer c.before.before.match2.keys1 in
     let by_parts = answers_by passed-parts walked.parts.ensures.answers in
     let proper = proper_by_parts _ _ (passed told) by-outline.outline.ensures by_parts in
-    let counted = c.numbers.ensures _ proper.proper (tally_is proper (walked.parts.ensures.counted passed-parts)) in
-    good_by_parts _ _ (passed told) by-outline.outline.ensures by_parts counted
+    good_by_parts _ _ (passed told) by-outline.outline.ensures by_parts (c.numbers.ensures ∙ counts_with proper (walked.parts.ensures.counted passed-parts))
 
 returns_3 : tie.Need-returns-3
 returns_3 c =
@@ -94,7 +94,7 @@ check_spec =
     (tie.spec
     header_requires
     limits_requires
-    first_refusal_requires
+    then_requires
     enum_known_opening
     returns
     enum_told

@@ -12,32 +12,32 @@ limit_requires c κs = search rules
 limit_requires_2 : tie.Need-limit-requires-2
 limit_requires_2 c κs = search rules
 
-first_refusal_requires : tie.Need-first-refusal-requires
-first_refusal_requires c κs = search rules
+then_requires : tie.Need-then-requires
+then_requires c κs = search rules
 
 limit_requires_3 : tie.Need-limit-requires-3
 limit_requires_3 c κs = search rules
 
-first_refusal_requires_2 : tie.Need-first-refusal-requires-2
-first_refusal_requires_2 c κs = search rules
+then_requires_2 : tie.Need-then-requires-2
+then_requires_2 c κs = search rules
 
 limit_requires_4 : tie.Need-limit-requires-4
 limit_requires_4 c κs = search rules
 
-first_refusal_requires_3 : tie.Need-first-refusal-requires-3
-first_refusal_requires_3 c κs = search rules
+then_requires_3 : tie.Need-then-requires-3
+then_requires_3 c κs = search rules
 
 limit_requires_5 : tie.Need-limit-requires-5
 limit_requires_5 c κs = search rules
 
-first_refusal_requires_4 : tie.Need-first-refusal-requires-4
-first_refusal_requires_4 c κs = search rules
+then_requires_4 : tie.Need-then-requires-4
+then_requires_4 c κs = search rules
 
 constraints_limit_requires : tie.Need-constraints-limit-requires
 constraints_limit_requires c κs = search rules
 
-first_refusal_requires_5 : tie.Need-first-refusal-requires-5
-first_refusal_requires_5 c κs = search rules
+then_requires_5 : tie.Need-then-requires-5
+then_requires_5 c κs = search rules
 
 returns : tie.Need-returns
 unfolding inputs_limit latches_limit gates_limit nodes_limit bound_limit
@@ -54,8 +54,8 @@ returns c =
     let nodes = to-nodes.before.limit4.ensures in
     let bound = to-bound.before.limit5.ensures in
     let constraints = c.before.constraints_limit.ensures in
-    let five = to-bound.first-refusal4.ensures.answers _ _ (to-nodes.first-refusal3.ensures.answers _ _ (to-gates.first-refusal2.ensures.answers _ _ (to_latches.first-refusal.ensures.answers _ _ inputs latches) gates) nodes) bound in
-    as_one (limit_checks args.version args.words.now) (c.first-refusal5.ensures.answers _ _ five constraints)
+    let five = to-bound.then4.ensures.answers _ _ (to-nodes.then3.ensures.answers _ _ (to-gates.then2.ensures.answers _ _ (to_latches.then.ensures.answers _ _ inputs latches) gates) nodes) bound in
+    as_one (limit_checks args.version args.words.now) (c.then5.ensures.answers _ _ five constraints)
 
 pub limits_spec : {M : Type 1} → statement M
 limits_spec =
@@ -63,13 +63,13 @@ limits_spec =
     (tie.spec
     limit_requires
     limit_requires_2
-    first_refusal_requires
+    then_requires
     limit_requires_3
-    first_refusal_requires_2
+    then_requires_2
     limit_requires_4
-    first_refusal_requires_3
+    then_requires_3
     limit_requires_5
-    first_refusal_requires_4
+    then_requires_4
     constraints_limit_requires
-    first_refusal_requires_5
+    then_requires_5
     returns)

@@ -9,46 +9,46 @@ use Rattle.problem.proofs.check.parts.Tie as tie
 
 -- ════════ The points ════════
 
-abbrev nodes : tie.After-length → tie.After-all-of-kind4
+abbrev nodes : tie.After-length → tie.After-all4
 nodes c = c.before.before
 
-abbrev constraints : tie.After-length → tie.After-all-of-kind3
+abbrev constraints : tie.After-length → tie.After-all3
 constraints c = (nodes c).before
 
-abbrev gates : tie.After-length → tie.After-all-of-kind2
+abbrev gates : tie.After-length → tie.After-all2
 gates c = (constraints c).before
 
-abbrev latches : tie.After-length → tie.After-all-of-kind
+abbrev latches : tie.After-length → tie.After-all
 latches c = (gates c).before.before
 
 -- ════════ The needs ════════
 
-all_of_kind_requires : tie.Need-all-of-kind-requires
-all_of_kind_requires c κs = search rules
+all_requires : tie.Need-all-requires
+all_requires c κs = search rules
 
-all_of_kind_requires_2 : tie.Need-all-of-kind-requires-2
-all_of_kind_requires_2 c κs = search rules
+all_requires_2 : tie.Need-all-requires-2
+all_requires_2 c κs = search rules
 
-all_of_kind_requires_3 : tie.Need-all-of-kind-requires-3
-all_of_kind_requires_3 c κs = search rules
+all_requires_3 : tie.Need-all-requires-3
+all_requires_3 c κs = search rules
 
-all_of_kind_requires_4 : tie.Need-all-of-kind-requires-4
-all_of_kind_requires_4 c κs = search rules
+all_requires_4 : tie.Need-all-requires-4
+all_requires_4 c κs = search rules
 
 length_requires : tie.Need-length-requires
 length_requires c κs = search rules
 
-first_refusal_requires : tie.Need-first-refusal-requires
-first_refusal_requires c κs = search rules
+then_requires : tie.Need-then-requires
+then_requires c κs = search rules
 
-first_refusal_requires_2 : tie.Need-first-refusal-requires-2
-first_refusal_requires_2 c κs = search rules
+then_requires_2 : tie.Need-then-requires-2
+then_requires_2 c κs = search rules
 
-first_refusal_requires_3 : tie.Need-first-refusal-requires-3
-first_refusal_requires_3 c κs = search rules
+then_requires_3 : tie.Need-then-requires-3
+then_requires_3 c κs = search rules
 
-first_refusal_requires_4 : tie.Need-first-refusal-requires-4
-first_refusal_requires_4 c κs = search rules
+then_requires_4 : tie.Need-then-requires-4
+then_requires_4 c κs = search rules
 
 returns : tie.Need-returns
 returns c =
@@ -59,26 +59,26 @@ returns c =
     let start = (latches length).before.before.before in
     let s = start.args.s in
     let ws = start.args.words.now in
-    let by-latches = (latches length).all-of-kind.ensures in
-    let by-gates = (gates length).all-of-kind2.ensures in
-    let by_constraints = (constraints length).all-of-kind3.ensures in
-    let by-nodes = (nodes length).all-of-kind4.ensures in
+    let by-latches = (latches length).all.ensures in
+    let by-gates = (gates length).all2.ensures in
+    let by_constraints = (constraints length).all3.ensures in
+    let by-nodes = (nodes length).all4.ensures in
     record {
       answers =
-          c.first-refusal4.ensures.answers _ _
-          (to-constraints.first-refusal3.ensures.answers _ _
-          (to-gates.first-refusal2.ensures.answers _ _ (to_latches.first-refusal.ensures.answers _ _ length.length.ensures by-latches.answers) by-gates.answers)
+          c.then4.ensures.answers _ _
+          (to-constraints.then3.ensures.answers _ _
+          (to-gates.then2.ensures.answers _ _ (to_latches.then.ensures.answers _ _ length.length.ensures by-latches.answers) by-gates.answers)
           by_constraints.answers)
           by-nodes.answers;
       counted = λ e.
-          let all = c.first-refusal4.ensures.both_pass e in
-          let all-but-nodes = to-constraints.first-refusal3.ensures.both_pass all.0 in
-          let to-the-gates = to-gates.first-refusal2.ensures.both_pass all-but-nodes.0 in
-          let passed = to_latches.first-refusal.ensures.both_pass to-the-gates.0 in
-          let forms = nodes_seen (problem_in s ws) (nodes length).all-of-kind4.result.seen ((shows s ws).nodes_are ∙ start.pre) (by-nodes.counted all.1) in
+          let all = c.then4.ensures.both_pass e in
+          let all-but-nodes = to-constraints.then3.ensures.both_pass all.0 in
+          let to-the-gates = to-gates.then2.ensures.both_pass all-but-nodes.0 in
+          let passed = to_latches.then.ensures.both_pass to-the-gates.0 in
+          let forms = nodes_seen (problem_in s ws) (nodes length).all4.result.seen ((shows s ws).nodes_are ∙ start.pre) (by-nodes.counted all.1) in
           record {
-            fixed_are = latches_seen (problem_in s ws) (latches length).all-of-kind.result.seen (shows s ws).latches_are (by-latches.counted passed.1);
-            forms_are = record { equals_are = forms.equals_are; junctions_are = forms.junctions_are; unfoldings_are = forms.unfoldings_are };
+            fixed_are = latches_seen (problem_in s ws) (latches length).all.result.seen (shows s ws).latches_are (by-latches.counted passed.1);
+            forms_are = record { equals_are = forms.equals_are; ors_are = forms.ors_are; untils_are = forms.untils_are };
           };
     }
 
@@ -86,13 +86,13 @@ pub parts_spec : {M : Type 1} → statement M
 parts_spec =
     tie.close
     (tie.spec
-    all_of_kind_requires
-    all_of_kind_requires_2
-    all_of_kind_requires_3
-    all_of_kind_requires_4
+    all_requires
+    all_requires_2
+    all_requires_3
+    all_requires_4
     length_requires
-    first_refusal_requires
-    first_refusal_requires_2
-    first_refusal_requires_3
-    first_refusal_requires_4
+    then_requires
+    then_requires_2
+    then_requires_3
+    then_requires_4
     returns)

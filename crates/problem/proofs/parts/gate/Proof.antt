@@ -32,8 +32,8 @@ module _ (o : Outline) (ws : List ℕ) (j : ℕ) {at own : ℕ} (p : at ≡ gate
 
   both : {r : PartAnswer} → Answers (left ++ right) r → Answers (gate_checks o ws j ∷ []) r
   both a =
-      let below_own = below (gate_limit o j) (omega arith) in
-      as_one (gate_checks o ws j) (rw (p, e, below_own (word ws (gate_place o j)), below_own (word ws (gate_place o j + 1))) at a)
+      let below-own = below (gate_limit o j) (omega arith) in
+      as_one (gate_checks o ws j) (rw (p, e, below-own (word ws (gate_place o j)), below-own (word ws (gate_place o j + 1))) at a)
 
   by_left : (r : PartAnswer) → tag_of the_type r ≡ 1 → Answers left r → Answers (gate_checks o ws j ∷ []) r
   by_left r t a = both (refused_stands left right r t a)

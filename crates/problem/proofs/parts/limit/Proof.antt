@@ -12,11 +12,11 @@ use Rattle.problem.proofs.parts.limit.Tie as tie
 abbrev start : tie.After-word-at → tie.Start
 start c = c.before.before
 
-abbrev header_word_read : tie.After-word-at → ℕ
-header_word_read c = word (start c).args.words.now (start c).args.at
+abbrev size : tie.After-word-at → ℕ
+size c = word (start c).args.words.now (start c).args.at
 
 -- Past the first test the word is not too small.
-enough : (c : tie.Else1) → (start c.before).args.least ≤ header_word_read c.before
+enough : (c : tie.Else1) → (start c.before).args.least ≤ size c.before
 enough c = rw c.before.word_at.ensures at c.if1.false
 
 word_at_requires : tie.Need-word-at-requires
@@ -25,12 +25,12 @@ word_at_requires c κs = search rules
 returns : tie.Need-returns
 returns c =
     let known = c.before in
-    fail (rw (lt-leb (start known).args.least (header_word_read known) (rw known.word_at.ensures at c.if1.true))) refl
+    fail (rw (lt-leb (start known).args.least (size known) (rw known.word_at.ensures at c.if1.true))) refl
 
 returns_2 : tie.Need-returns-2
 returns_2 c =
     let known = c.before.before in
-    fail (rw (le-leb (start known).args.least (header_word_read known) (enough c.before), lt-leb (header_word_read known) (start known).args.most (rw known.word_at.ensures at c.if2.true))) refl
+    fail (rw (le-leb (start known).args.least (size known) (enough c.before), lt-leb (size known) (start known).args.most (rw known.word_at.ensures at c.if2.true))) refl
 
 returns_3 : tie.Need-returns-3
 returns_3 c =

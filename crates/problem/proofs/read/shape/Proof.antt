@@ -3,7 +3,7 @@ use mathlib.Core.Path.{◌≡◌}
 use Prim.Native.Nat.{ℕ, suc, ◌≤◌, zero-le}
 use native.Mathlib.Omega.{arith}
 use lib.ListN.{length, get_or-eq_default}
-use Rattle.meaning.specs.Problem.{shapes, atom_node}
+use Rattle.meaning.specs.Problem.{shapes, atom}
 use Rattle.problem.proofs.read.shape.Statement.{statement}
 use Rattle.problem.proofs.read.shape.Tie as tie
 
@@ -40,7 +40,7 @@ returns_9 c =
     let r = c.match.rest in
     let unknown : length shapes ≤ c.before.args.op =
     past (past (past (past (past (past (past (past zero-le r.0.0.0.0.0.0.0.1) r.0.0.0.0.0.0.1) r.0.0.0.0.0.1) r.0.0.0.0.1) r.0.0.0.1) r.0.0.1) r.0.1) r.1 in
-    rw (get_or-eq_default shapes (λ a b. atom_node 0) unknown)
+    rw (get_or-eq_default shapes (λ a b. atom 0) unknown)
 
 pub shape_spec : {M : Type 1} → statement M
 shape_spec =

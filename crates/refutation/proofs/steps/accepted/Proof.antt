@@ -11,7 +11,7 @@ use mir.Syntax.{w32}
 use mir.Val.{SFits}
 use Rattle.clauses.specs.Clauses.{variable_of}
 use Rattle.clauses.specs.Refutations.{Lookup, unit, hint_outcome, clause_numbered}
-use Rattle.refutation.specs.Work.{stamps_limit, Marked, outcome_given, known}
+use Rattle.refutation.specs.Work.{stamps_limit, Marked, outcome_found, known}
 use Rattle.clauses.proofs.Signs.{word_is}
 use Rattle.refutation.proofs.ClauseLiterals.{literal_at, within_at, within_at_least, within_at_most}
 use Rattle.refutation.proofs.KnownClauses.{Unset, known_fits, hint_unset}
@@ -130,7 +130,7 @@ hint_requires c κs =
 -- What the hint gave.
 hint_gave : (c : tie.After-hint invariant_loop decreases_loop)
     → let t = turn (read c) in
-    outcome_given c.hint.result ≡ hint_outcome (known_here t) t.loop.inv.trues (variable_of (hint_word t))
+    outcome_found c.hint.result ≡ hint_outcome (known_here t) t.loop.inv.trues (variable_of (hint_word t))
 hint_gave c =
     let t = (turn (read c)).loop.inv in
     c.hint.ensures t.trues t.values
@@ -154,7 +154,7 @@ returns_2 : tie.Need-returns-2 invariant_loop decreases_loop
 returns_2 c =
     let h = c.before.before in
     let t = turn (read h) in
-    (at_conflict t.loop.inv (below (read h)) (ap outcome_given (sym c.enum_told.given.1) ∙ hint_gave h), all_marked t)
+    (at_conflict t.loop.inv (below (read h)) (ap outcome_found (sym c.enum_told.given.1) ∙ hint_gave h), all_marked t)
 
 enum_known_w : tie.Need-enum-known-w invariant_loop decreases_loop
 enum_known_w c = search rules
@@ -171,7 +171,7 @@ module _ (c : tie.After-known-told invariant_loop decreases_loop) where
   u_fits = sfits_of c.known-told.given.0.1
 
   gave_unit : unit u ≡ hint_outcome (known_here unit_turn) unit_turn.loop.inv.trues (variable_of (hint_word unit_turn))
-  gave_unit = ap outcome_given (sym c.before.w.given.1) ∙ hint_gave (unit_given c)
+  gave_unit = ap outcome_found (sym c.before.w.given.1) ∙ hint_gave (unit_given c)
 
   u_unset : Unset (entry unit_turn).args.here.limit unit_turn.loop.inv.trues u
   u_unset =
@@ -210,7 +210,7 @@ returns_3 : tie.Need-returns-3 invariant_loop decreases_loop
 returns_3 c =
     let h = c.before.before in
     let t = turn (read h) in
-    (at_neither t.loop.inv (below (read h)) (ap outcome_given (sym c.enum-told2.given.1) ∙ hint_gave h), all_marked t)
+    (at_neither t.loop.inv (below (read h)) (ap outcome_found (sym c.enum-told2.given.1) ∙ hint_gave h), all_marked t)
 
 same_length_4 : tie.Need-same-length-4 invariant_loop decreases_loop
 same_length_4 c = long c.before

@@ -12,7 +12,7 @@ use Rattle.refutation.proofs.steps.hint.Tie as tie
 abbrev start : tie.After-lookup → tie.Start
 start c = c.before.before.before
 
-abbrev looked_up : tie.After-clause-outcome → tie.After-lookup
+abbrev looked_up : tie.After-find → tie.After-lookup
 looked_up c = c.before.before
 
 lookup_requires : tie.Need-lookup-requires
@@ -33,8 +33,8 @@ clause_is c =
     let pre = (start c).requires in
     hint_clause pre.1.0 _ pre.0.0 pre.0.1 c.lookup.ensures.0 c.lookup.ensures.1
 
-clause_outcome_requires : tie.Need-clause-outcome-requires
-clause_outcome_requires c κs =
+find_requires : tie.Need-find-requires
+find_requires c κs =
     let pre = (start c.before).requires in
     let inside = hint_within pre.1.0 _ pre.0.0 pre.0.1 in
     (omega (arith, c.stamp-after.ensures, stamp_after_requires c.before), rw (clause_is c.before) inside, pre.1.1)
@@ -42,8 +42,8 @@ clause_outcome_requires c κs =
 returns : tie.Need-returns
 returns c =
     let pre = (start (looked_up c)).requires in
-    λ trues vs. c.clause-outcome.ensures trues (rw c.before.stamp-after.ensures vs)
+    λ trues vs. c.find.ensures trues (rw c.before.stamp-after.ensures vs)
     ∙ rw (clause_is (looked_up c), hint_known pre.1.0 _ pre.0.0 pre.0.1 trues)
 
 pub hint_spec : {M : Type 1} → statement M
-hint_spec = tie.close (tie.spec lookup_requires stamp_after_requires clause_outcome_requires returns)
+hint_spec = tie.close (tie.spec lookup_requires stamp_after_requires find_requires returns)

@@ -27,10 +27,10 @@ small : (c : tie.Then1 invariant_loop decreases_loop) → length (start c).args.
 small c = (start c).well-formed.1.1.0.1
 
 fits : (c : tie.Then1 invariant_loop decreases_loop) → (start c).args.at + length (start c).args.text.now ≤ length (start c).args.out.now
-fits c = fits_by (start c).args.text.now (start c).args.at (start c).args.out.now c.before.capped-sum.ensures (small c) (omega arith)
+fits c = fits_by (start c).args.text.now (start c).args.at (start c).args.out.now c.before.sum.ensures (small c) (omega arith)
 
-capped_sum_requires : tie.Need-capped-sum-requires invariant_loop decreases_loop
-capped_sum_requires c κs = tt
+sum_requires : tie.Need-sum-requires invariant_loop decreases_loop
+sum_requires c κs = tt
 
 loop_holds : tie.Need-loop-init invariant_loop decreases_loop
 loop_holds c = (omega arith, refl, rw add-zero (put_none _ _))
@@ -69,12 +69,12 @@ returns c =
     let text = args.text.now in
     let ended : c.before.loop.i ≡ length text = omega arith in
     let all : take c.before.loop.i text ≡ text = rw (ended, take-length) in
-    puts_there text args.at args.out.now fitting.before.capped-sum.ensures (fits fitting) (rw all at c.before.loop.invariant.2).held
+    puts_there text args.at args.out.now fitting.before.sum.ensures (fits fitting) (rw all at c.before.loop.invariant.2).held
 
 returns_2 : tie.Need-returns-2 invariant_loop decreases_loop
 returns_2 c =
     let args = c.before.before.before.before.args in
-    puts_nothing args.text.now args.at args.out.now c.before.capped-sum.ensures (omega arith)
+    puts_nothing args.text.now args.at args.out.now c.before.sum.ensures (omega arith)
 
 pub put_bytes_spec : {M : Type 1} → statement M
 put_bytes_spec =
@@ -82,7 +82,7 @@ put_bytes_spec =
     (tie.spec
     invariant_loop
     decreases_loop
-    capped_sum_requires
+    sum_requires
     loop_holds
     shared_slice_read_out
     add_out

@@ -13,10 +13,10 @@ use Rattle.text.proofs.put.put_number.Tie as tie
 -- ════════ The points ════════
 
 -- The entry, by where the place after the digits is known.
-abbrev start : tie.After-capped-sum → tie.Start
+abbrev start : tie.After-sum → tie.Start
 start c = c.before.before.before
 
-abbrev ended : tie.After-fill-digits → tie.After-capped-sum
+abbrev ended : tie.After-fill-digits → tie.After-sum
 ended c = c.before.before.before
 
 -- ════════ The needs ════════
@@ -24,13 +24,13 @@ ended c = c.before.before.before
 digits_requires : tie.Need-digits-requires
 digits_requires c κs = search rules
 
-capped_sum_requires : tie.Need-capped-sum-requires
-capped_sum_requires c κs = search rules
+sum_requires : tie.Need-sum-requires
+sum_requires c κs = search rules
 
-end_is : (c : tie.After-capped-sum) → c.capped-sum.result ≡ min ((start c).args.at + length (decimal (start c).args.n)) largest_size
-end_is c = c.capped-sum.ensures ∙ ap (λ k. min ((start c).args.at + k) largest_size) c.before.digits.ensures
+end_is : (c : tie.After-sum) → c.sum.result ≡ min ((start c).args.at + length (decimal (start c).args.n)) largest_size
+end_is c = c.sum.ensures ∙ ap (λ k. min ((start c).args.at + k) largest_size) c.before.digits.ensures
 
-small : (c : tie.After-capped-sum) → length (start c).args.out.now * 1 < 2 ^ 63
+small : (c : tie.After-sum) → length (start c).args.out.now * 1 < 2 ^ 63
 small c = (start c).well-formed.1.1.0.1
 
 fill_digits_requires : tie.Need-fill-digits-requires
@@ -58,4 +58,4 @@ returns_2 c =
 pub put_number_spec : {M : Type 1} → statement M
 put_number_spec =
     tie.close
-    (tie.spec digits_requires capped_sum_requires fill_digits_requires same_length returns returns_2)
+    (tie.spec digits_requires sum_requires fill_digits_requires same_length returns returns_2)

@@ -11,7 +11,7 @@ use Rattle.problem.specs.Promise.{problem_in}
 use Rattle.problem.proofs.Outlines.{shows}
 use Rattle.values.specs.Tables.{row_in, FormulaReady}
 use Rattle.values.specs.Values.{nodes_fit, rows_fit, value_in}
-use Rattle.values.proofs.Fits.{value_unless_nodes, value_unless_loop_byte, value_unless_rows, value_if_fit, ready_if_fit, shape_later}
+use Rattle.values.proofs.Fits.{value_unless_nodes, value_unless_first, value_unless_rows, value_if_fit, ready_if_fit, shape_later}
 use Rattle.values.proofs.nodes.formula_value.Statement.{statement}
 use Rattle.values.proofs.nodes.formula_value.Tie as tie
 
@@ -37,8 +37,8 @@ problem_at s = problem_in s.args.s (words_at s)
 nodes_yes : (c : tie.Else1) → nodes_fit (problem_at (start c.before)) ≡ true
 nodes_yes c = sym c.before.nodes_fit.ensures ∙ not-false _ c.if1.false
 
-loop_byte_within : (c : tie.Else2) → let s = start c.before.before.before in s.args.loop-byte ≤ (problem_at s).bound + 1
-loop_byte_within c =
+first_within : (c : tie.Else2) → let s = start c.before.before.before in s.args.first ≤ (problem_at s).bound + 1
+first_within c =
     let s = start c.before.before.before in
     let z = shows s.args.s (words_at s) in
     omega (arith, c.if2.false)
@@ -54,11 +54,11 @@ module _ (c : tie.Else3) where
   ready : {lasso : Bool} {l : ℕ} → (lasso ≡ true → l ≤ begun.args.s.bound) → FormulaReady begun.args.s (words_at begun) lasso l (table_at begun)
   ready = ready_if_fit begun.args.s (words_at begun) (table_at begun) (nodes_yes (nodes_of c.before)) rows_yes
 
-  valued : {s : Shape} → shape_of begun.args.loop-byte ≡ s → {r : Bool}
+  valued : {s : Shape} → shape_of begun.args.first ≡ s → {r : Bool}
       → r ≡ bounded_value s (problem_at begun).bound (row_in (table_at begun)) (formula (problem_at begun)) 0
-      → r ≡ value_in (problem_at begun) begun.args.loop-byte (table_at begun)
+      → r ≡ value_in (problem_at begun) begun.args.first (table_at begun)
   valued =
-      value_if_fit (problem_at begun) begun.args.loop-byte (table_at begun) (nodes_yes (nodes_of c.before)) (loop_byte_within c.before.before) rows_yes
+      value_if_fit (problem_at begun) begun.args.first (table_at begun) (nodes_yes (nodes_of c.before)) (first_within c.before.before) rows_yes
 
 -- ════════ The needs ════════
 
@@ -68,7 +68,7 @@ nodes_fit_requires c κs = search rules
 returns : tie.Need-returns
 returns c =
     let s = start c.before in
-    value_unless_nodes (problem_at s) s.args.loop-byte (table_at s) (sym c.before.nodes_fit.ensures ∙ not-true _ c.if1.true)
+    value_unless_nodes (problem_at s) s.args.first (table_at s) (sym c.before.nodes_fit.ensures ∙ not-true _ c.if1.true)
 
 cast_if2 : tie.Need-overflow-cast-if2
 cast_if2 c = search rules
@@ -81,7 +81,7 @@ returns_2 c =
     let nodes = c.before.before in
     let s = start nodes.before in
     let z = shows s.args.s (words_at s) in
-    value_unless_loop_byte (problem_at s) s.args.loop-byte (table_at s) (nodes_yes nodes) (omega (arith, c.if2.true))
+    value_unless_first (problem_at s) s.args.first (table_at s) (nodes_yes nodes) (omega (arith, c.if2.true))
 
 rows_fit_requires : tie.Need-rows-fit-requires
 rows_fit_requires c κs = search rules
@@ -90,7 +90,7 @@ returns_3 : tie.Need-returns-3
 returns_3 c =
     let nodes = nodes_of c.before in
     let s = start nodes.before in
-    value_unless_rows (problem_at s) s.args.loop-byte (table_at s) (nodes_yes nodes) (loop_byte_within c.before.before)
+    value_unless_rows (problem_at s) s.args.first (table_at s) (nodes_yes nodes) (first_within c.before.before)
     (sym (c.before.rows_fit.ensures (words_at s)) ∙ not-true _ c.if3.true)
 
 last_value_requires : tie.Need-last-value-requires
@@ -110,7 +110,7 @@ last_value_requires_2 c κs =
 
 returns_5 : tie.Need-returns-5
 returns_5 c =
-    valued c.before.before (shape_later (begun c.before.before).args.loop-byte c.before.if4.false) c.last-value2.ensures
+    valued c.before.before (shape_later (begun c.before.before).args.first c.before.if4.false) c.last-value2.ensures
 
 pub formula_value_spec : {M : Type 1} → statement M
 formula_value_spec =

@@ -17,8 +17,8 @@ pass_of c = c.before.before.before.before
 goes_on_requires : tie.Need-goes-on-requires
 goes_on_requires c κs = search rules
 
-q_end_requires : tie.Need-q-end-requires
-q_end_requires c κs = search rules
+second_end_requires : tie.Need-second-end-requires
+second_end_requires c κs = search rules
 
 pass_requires : tie.Need-pass-requires
 pass_requires c κs = search rules
@@ -33,7 +33,7 @@ returns : tie.Need-returns
 returns c =
     let pass = pass_of c in
     let ends = pass.before.before in
-    end_found (start ends.before.before).requires.span_right ends.q-end.ensures pass.pass.ensures c.end-value.ensures
+    end_found (start ends.before.before).requires.span_right ends.second-end.ensures pass.pass.ensures c.end-value.ensures
 
 returns_2 : tie.Need-returns-2
 returns_2 c =
@@ -45,7 +45,7 @@ own_end_spec =
     tie.close
     (tie.spec
     goes_on_requires
-    q_end_requires
+    second_end_requires
     pass_requires
     end_value_requires
     same_length

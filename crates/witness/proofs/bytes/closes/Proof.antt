@@ -85,11 +85,11 @@ module _ (c : tie.After-first-open) where
 
 -- ════════ The needs ════════
 
-shared_slice_read_loop_byte : tie.Need-shared-slice-read-loop-byte
-shared_slice_read_loop_byte c = omega (arith, c.before.before.before.before.requires.long)
+shared_slice_read_first : tie.Need-shared-slice-read-first
+shared_slice_read_first c = omega (arith, c.before.before.before.before.requires.long)
 
-cast_loop_byte : tie.Need-overflow-cast-loop-byte
-cast_loop_byte c = omega (arith, c.shared-slice-known4.given 0)
+cast_first : tie.Need-overflow-cast-first
+cast_first c = omega (arith, c.shared-slice-known4.given 0)
 
 returns : tie.Need-returns
 returns c = rw c.if1.true (pass_all none_yet refl)
@@ -171,8 +171,8 @@ pub closes_spec : {M : Type 1} → statement M
 closes_spec =
     tie.close
     (tie.spec
-    shared_slice_read_loop_byte
-    cast_loop_byte
+    shared_slice_read_first
+    cast_first
     returns
     cast_last
     mul_last

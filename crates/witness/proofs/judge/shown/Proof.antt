@@ -95,11 +95,11 @@ returns_2 c =
     after_loop c.before
     (refused_first _ _ (refuses_if_later c.before.constraints.result c.match2.keys2) (by_constraints c.before))
 
-shared_slice_read_loop_byte : tie.Need-shared-slice-read-loop-byte
-shared_slice_read_loop_byte c = search rules
+shared_slice_read_first : tie.Need-shared-slice-read-first
+shared_slice_read_first c = search rules
 
-cast_loop_byte : tie.Need-overflow-cast-loop-byte
-cast_loop_byte c = search rules
+cast_first : tie.Need-overflow-cast-first
+cast_first c = search rules
 
 formula_value_requires : tie.Need-formula-value-requires
 formula_value_requires c κs = search rules
@@ -120,8 +120,8 @@ shown_spec =
     constraints_requires
     enum_told_2
     returns_2
-    shared_slice_read_loop_byte
-    cast_loop_byte
+    shared_slice_read_first
+    cast_first
     formula_value_requires
     returns_3
     returns_4)
