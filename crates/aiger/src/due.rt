@@ -17,7 +17,7 @@ const FREE: u32 = 2;
 
 // How far a text was read: no fault yet, and the place after what was read; or the fault's place. The table's first `filled` words are the
 // numbers that were kept.
-#[derive(Drop)]
+#[derive(Clone, Copy)]
 pub(crate) struct Reached {
     pub good: bool,
     pub place: usize,

@@ -1,4 +1,6 @@
 // Circuits in AIGER's ASCII text: a reader and a writer.
+#![tactic(auto)]
+
 pub mod answer;
 mod check;
 mod due;
@@ -10,7 +12,7 @@ pub mod write;
 use problem::Refusal;
 
 // The answers to reading and to writing; `answer` gives the number and the place of each.
-#[derive(Drop)]
+#[derive(Clone, Copy)]
 pub enum Outcome {
     Done(usize),
     BadText(usize),

@@ -25,7 +25,7 @@ const TABLE: usize = 2
 const VARIABLE_PLACE: usize = 4;
 
 // A text without fault, by its sizes, or the fault's place.
-#[derive(Drop)]
+#[derive(Clone, Copy)]
 pub(crate) enum Judgement {
     Good(Sizes),
     Fault(usize),

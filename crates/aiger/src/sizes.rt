@@ -8,7 +8,7 @@ ghost use Rattle.aiger.specs.Reads.{sizes_of, Fitting, count_of, literal_of};
 // The words of the header: I, L, A, O.
 pub(crate) const HEADER_WORDS: usize = 4;
 
-#[derive(Drop)]
+#[derive(Clone, Copy)]
 pub(crate) struct Sizes {
     pub inputs: u32,
     pub latches: u32,
@@ -17,7 +17,7 @@ pub(crate) struct Sizes {
 }
 
 // What has a line of its own in a text.
-#[derive(Drop)]
+#[derive(Clone, Copy)]
 pub(crate) enum Kind {
     Input,
     Latch,

@@ -5,7 +5,7 @@ use crate::input::{
 };
 use crate::output::{print_all, print_answer, print_areas, print_bytes, print_room};
 
-#[derive(Drop)]
+#[derive(Clone, Copy)]
 pub enum Outcome {
     Answered,
     Broken(Fault),

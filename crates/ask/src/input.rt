@@ -21,7 +21,7 @@ pub const AREA_WORDS: usize = 66000;
 pub const LARGEST: usize = 4 * CNF_WORDS;
 
 // Why a request is not answered.
-#[derive(Drop)]
+#[derive(Clone, Copy)]
 pub enum Fault {
     TooLong,
     CutShort,
@@ -29,28 +29,28 @@ pub enum Fault {
 }
 
 // Whether a buffer has all of its bytes, or why not.
-#[derive(Drop)]
+#[derive(Clone, Copy)]
 pub enum Bytes {
     All,
     Broken(Fault),
 }
 
 // The byte that opens a request, if there is another.
-#[derive(Drop)]
+#[derive(Clone, Copy)]
 pub enum Asked {
     Call(u8),
     End,
     Unread,
 }
 
-#[derive(Drop)]
+#[derive(Clone, Copy)]
 pub enum Number {
     Value(u32),
     Broken(Fault),
 }
 
 // How many items a buffer has, or why it was not read.
-#[derive(Drop)]
+#[derive(Clone, Copy)]
 pub enum Got {
     Items(usize),
     Broken(Fault),

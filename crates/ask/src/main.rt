@@ -1,4 +1,6 @@
 // Answers requests from standard input: library calls on words that need not be any good.
+#![tactic(auto)]
+
 mod calls;
 mod circuits;
 mod input;

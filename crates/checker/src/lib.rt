@@ -1,4 +1,6 @@
 // Judges a refutation of a problem's CNF.
+#![tactic(auto)]
+
 pub mod answer;
 pub mod judge;
 mod prepare;
@@ -6,7 +8,7 @@ mod prepare;
 use problem::Refusal;
 
 // Document 01's answers to a refutation of a problem's CNF; `answer` gives the number and the place of each.
-#[derive(Drop)]
+#[derive(Clone, Copy)]
 pub enum Refuted {
     Yes,
     Problem(Refusal),

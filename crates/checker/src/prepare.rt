@@ -13,7 +13,7 @@ use refutation::WordsCounted;
 use refutation::words::count_steps;
 
 // The numbers of the CNF that was written, or a refusal before it.
-#[derive(Drop)]
+#[derive(Clone, Copy)]
 pub(crate) enum Prepared {
     Written(Counts),
     Problem(Refusal),

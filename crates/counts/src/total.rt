@@ -11,7 +11,7 @@ use crate::{Counts, Tally};
 const TOO_MANY: usize = 65536;
 
 // What a clause of one, of two and of three literals weighs, and the clause -E s(0)..s(k).
-#[derive(Drop)]
+#[derive(Clone, Copy)]
 struct Weights {
     one: usize,
     two: usize,

@@ -9,7 +9,7 @@ ghost use Rattle.encoder.specs.ItemParts.{form_over, NegatableForm, excluded_pai
 use crate::write::{clause2, clause3};
 
 // An op's form over its children, which are literals by now; Until and Release end with one more.
-#[derive(Drop)]
+#[derive(Clone, Copy)]
 pub(crate) enum OpForm {
     Equal(i32),
     And(i32, i32),

@@ -1,4 +1,6 @@
 // Writes the CNF of a problem.
+#![tactic(auto)]
+
 pub mod answer;
 mod circuit;
 mod constraints;
@@ -13,7 +15,7 @@ use counts::Counts;
 use problem::Refusal;
 
 // The outcome of writing: the numbers of the CNF that was written, the problem's refusal, or the words needed; `answer` gives the number and the place of each.
-#[derive(Drop)]
+#[derive(Clone, Copy)]
 pub enum Encoded {
     Written(Counts),
     Problem(Refusal),

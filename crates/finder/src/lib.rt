@@ -1,4 +1,6 @@
 // Finds the first witness of a problem in byte order, or that none exists.
+#![tactic(auto)]
+
 use problem::Refusal;
 
 pub mod answer;
@@ -11,7 +13,7 @@ mod run;
 mod search;
 
 // The answers to a search; `answer` gives the number and the place of each.
-#[derive(Drop)]
+#[derive(Clone, Copy)]
 pub enum Finding {
     Found(usize),
     Problem(Refusal),

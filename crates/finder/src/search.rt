@@ -12,7 +12,7 @@ use problem::Outline;
 use values::rows::{POSITIONS, ROWS};
 
 // The lowest first byte that made a run a witness, one past the last where none did, and the first run that it did.
-#[derive(Drop)]
+#[derive(Clone, Copy)]
 pub(crate) struct Best {
     pub(crate) first: u32,
     pub(crate) run: u32,

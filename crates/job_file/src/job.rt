@@ -15,14 +15,14 @@ const JOB_HEADER: usize = 5;
 const WORDS_ROOM: usize = JOB_LIMIT / 4;
 
 // 15 at a place; `answer` gives the number.
-#[derive(Drop)]
+#[derive(Clone, Copy)]
 pub enum JobAnswer {
     Good,
     Bad(usize),
 }
 
 // The first `count` words are the job's, and the others are 0.
-#[derive(Drop)]
+#[derive(Clone, Copy)]
 pub struct Job {
     pub answer: JobAnswer,
     pub version: u32,

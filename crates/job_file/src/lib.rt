@@ -1,4 +1,6 @@
 // Document 01's job file and program: a job file read, and what is printed for it.
+#![tactic(auto)]
+
 mod answer;
 pub mod job;
 pub mod print;

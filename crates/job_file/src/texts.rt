@@ -11,7 +11,7 @@ use clauses::literals::variable;
 use text::put::{digits, put_bytes, put_ended, sum};
 
 // The bytes of a text that was written, or those that it needs.
-#[derive(Drop)]
+#[derive(Clone, Copy)]
 pub enum Printed {
     Bytes(usize),
     Short(usize),

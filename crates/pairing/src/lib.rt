@@ -1,1 +1,2 @@
 // A pure crate: the definitions are in specs/, their laws in proofs/.
+#![tactic(auto)]

@@ -1,5 +1,7 @@
 // Reads a job file from standard input, and prints the text of its CNF or the line of its refusal.
 // Where standard input cannot be read it prints nothing, and says so on standard error.
+#![tactic(auto)]
+
 ghost use Rattle.std.specs.Prelude.{◌≡◌, ◌≤◌, length, take};
 ghost use Rattle.job_file.specs.JobFile.{printed};
 ghost use Rattle.reading.specs.Filled.{Within};

@@ -19,7 +19,7 @@ use answers::limits::{
 };
 
 // What a walk answers, and what was counted on the way.
-#[derive(Drop)]
+#[derive(Clone, Copy)]
 pub(crate) struct Walked {
     answer: PartAnswer,
     seen: Seen,

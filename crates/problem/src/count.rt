@@ -14,7 +14,7 @@ use counts::total::counts;
 use counts::{Counts, Tally};
 
 // The resets that are 0 or 1, and the nodes by their form: x=a, "and" and "or", Until and Release.
-#[derive(Drop)]
+#[derive(Clone, Copy)]
 pub(crate) struct Seen {
     pub fixed: usize,
     pub equals: usize,

@@ -5,7 +5,7 @@ ghost use Rattle.problem.specs.Kinds.{count_of};
 
 use crate::Outline;
 
-#[derive(Drop)]
+#[derive(Clone, Copy)]
 pub(crate) enum Kind {
     Latch,
     Gate,

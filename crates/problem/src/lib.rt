@@ -1,4 +1,6 @@
 // Checks a problem, counts what its CNF has, and reads its parts.
+#![tactic(auto)]
+
 pub mod answer;
 pub mod check;
 mod count;
@@ -10,7 +12,7 @@ pub mod read;
 use counts::Counts;
 
 // The sizes of a problem, its W, and where each of its parts begins in its words. The nodes of the words and those of the formula are two numbers.
-#[derive(Drop)]
+#[derive(Clone, Copy)]
 pub struct Outline {
     pub inputs: u32,
     pub latches: u32,
@@ -27,7 +29,7 @@ pub struct Outline {
 }
 
 // Document 01's refusals of a problem; `answer` gives the number and the place of each.
-#[derive(Drop)]
+#[derive(Clone, Copy)]
 pub enum Refusal {
     BadVersion,
     BadLength(usize),
@@ -38,28 +40,28 @@ pub enum Refusal {
 }
 
 // What the check answers of a good problem: its outline, and the numbers of its CNF.
-#[derive(Drop)]
+#[derive(Clone, Copy)]
 pub struct ProblemRecord {
     pub outline: Outline,
     pub counts: Counts,
 }
 
 // The outcome of the check: the record of a good problem, or the refusal.
-#[derive(Drop)]
+#[derive(Clone, Copy)]
 pub enum Checked {
     Good(ProblemRecord),
     Refused(Refusal),
 }
 
 // What stands on the left of U and R: a node, or a constant where the op is F or G.
-#[derive(Drop)]
+#[derive(Clone, Copy)]
 pub enum Left {
     Constant(bool),
     Child(u32),
 }
 
 // A node by its shape. F is U and G is R with a constant on the left.
-#[derive(Drop)]
+#[derive(Clone, Copy)]
 pub enum Node {
     Atom(u32),
     Both(u32, u32),

@@ -17,7 +17,7 @@ const OPS: usize = 8;
 pub(crate) const CHILDREN: [u32; OPS] = [0, 2, 2, 1, 1, 1, 2, 2];
 
 // What a part of the check answers.
-#[derive(Drop)]
+#[derive(Clone, Copy)]
 pub enum PartAnswer {
     Passed,
     Refused(Refusal),

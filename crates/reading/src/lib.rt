@@ -1,13 +1,15 @@
 // Reads until a buffer is full or the input ends, and tells a read that fails from the end of the input.
 //
 // A read that fails after some bytes fails the whole reading, and a call that a signal interrupts counts as one that failed.
+#![tactic(auto)]
+
 ghost use Rattle.std.specs.Prelude.{◌≤◌, min, ◌≡◌, length};
 ghost use Rattle.reading.specs.Filled.{taken_as, Within, Put, Filled};
 
 use text::put::put_bytes;
 
 // How many bytes were put at the start of the buffer, or that a read failed.
-#[derive(Drop)]
+#[derive(Clone, Copy)]
 pub enum Reading {
     Bytes(usize),
     Failed,

@@ -100,6 +100,6 @@ module _ {variables stamp : ℕ} {named : Lookup} {clause hints : List ℤ} {bef
           long = long ∙ t.long;
           marked = marked_on t.marked (rw is at m);
           trues = u ∷ t.trues;
-          values = rw (is, w) at (set t.trues (rw is t.values) (rw w n.not-true) (rw w n.not-false));
+          values = rw (is, w) at (set t.trues (rw is t.values) (rw w n.not_true) (rw w n.not_false));
           left = by_outcome e;
         })

@@ -1,4 +1,6 @@
 // Judges a refutation of any CNF. Knows nothing of circuits.
+#![tactic(auto)]
+
 pub mod answer;
 pub mod judge;
 mod places;
@@ -7,7 +9,7 @@ mod values;
 pub mod words;
 
 // Document 01's answers to a refutation of a bare CNF; `answer` gives the number and the place of each.
-#[derive(Drop)]
+#[derive(Clone, Copy)]
 pub enum RefutationAnswer {
     Yes,
     BadCnf(usize),
@@ -18,7 +20,7 @@ pub enum RefutationAnswer {
 }
 
 // Words that were checked: how many clauses or steps they are, or the place of the refusal.
-#[derive(Drop)]
+#[derive(Clone, Copy)]
 pub enum WordsCounted {
     Count(usize),
     BadAt(usize),

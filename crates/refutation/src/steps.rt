@@ -21,7 +21,7 @@ fn stamp_after(done: usize) -> u64
 
 // The step that is judged: the variables have the numbers up to `limit`, the clauses of the CNF those up to `base`, and `done` steps
 // come before it.
-#[derive(Drop)]
+#[derive(Clone, Copy)]
 struct StepPlace {
     limit: usize,
     base: usize,

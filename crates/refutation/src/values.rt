@@ -8,7 +8,7 @@ ghost use Rattle.refutation.specs.Work.{stamps_limit, mark_of, cell, LiteralsWit
 use clauses::literals::variable;
 
 // What a hint's clause gives under the values so far.
-#[derive(Drop)]
+#[derive(Clone, Copy)]
 pub(crate) enum Found {
     Conflict,
     Unit(i32),

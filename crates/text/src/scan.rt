@@ -17,7 +17,7 @@ const ZERO: u64 = 1;
 const FEW: u64 = LARGEST_NUMBER / 10;
 
 // A word that was read: its state, and where it ends.
-#[derive(Drop)]
+#[derive(Clone, Copy)]
 pub struct Word {
     pub state: u64,
     pub end: usize,

@@ -24,7 +24,7 @@ const NODES: usize = NODES_LIMIT as usize;
 const ENTRIES: usize = NODES * POSITIONS;
 
 // A run's positions 0..last, and where its loop starts if it has one.
-#[derive(Drop)]
+#[derive(Clone, Copy)]
 pub(crate) struct Span {
     last: u32,
     lasso: bool,

@@ -1,4 +1,6 @@
 // Judges a witness of a problem.
+#![tactic(auto)]
+
 use problem::Refusal;
 
 pub mod answer;
@@ -7,7 +9,7 @@ pub mod judge;
 mod run;
 
 // The documents' answers to a witness; `answer` gives the number and the place of each.
-#[derive(Drop)]
+#[derive(Clone, Copy)]
 pub enum WitnessAnswer {
     Yes,
     Problem(Refusal),

@@ -9,31 +9,31 @@ use Rattle.counts.proofs.total.variables_in.Tie as tie
 small : (c : tie.Start) → SmallVariables (tally_of c.args.t)
 small c = small_variables (few_told (tally_of c.args.t) c.requires)
 
-add_circuit : tie.Need-overflow-add-circuit
+add_circuit : tie.Need-overflow_add-circuit
 add_circuit c = omega (arith, small c)
 
-mul_circuit : tie.Need-overflow-mul-circuit
+mul_circuit : tie.Need-overflow_mul-circuit
 mul_circuit c = omega (arith, small c)
 
-add_nodes : tie.Need-overflow-add-nodes
+add_nodes : tie.Need-overflow_add-nodes
 add_nodes c = omega (arith, small c)
 
-add_nodes_2 : tie.Need-overflow-add-nodes-2
+add_nodes_2 : tie.Need-overflow_add-nodes-2
 add_nodes_2 c = omega (arith, small c)
 
-mul_nodes : tie.Need-overflow-mul-nodes
+mul_nodes : tie.Need-overflow_mul-nodes
 mul_nodes c = omega (arith, small c)
 
-add_nodes_3 : tie.Need-overflow-add-nodes-3
+add_nodes_3 : tie.Need-overflow_add-nodes-3
 add_nodes_3 c = omega (arith, small c)
 
-mul_nodes_2 : tie.Need-overflow-mul-nodes-2
+mul_nodes_2 : tie.Need-overflow_mul-nodes-2
 mul_nodes_2 c = omega (arith, small c)
 
-add_result : tie.Need-overflow-add-result
+add_result : tie.Need-overflow_add-result
 add_result c = omega (arith, small c)
 
-add_result_2 : tie.Need-overflow-add-result-2
+add_result_2 : tie.Need-overflow_add-result-2
 add_result_2 c = omega (arith, small c)
 
 returns : tie.Need-returns

@@ -10,75 +10,75 @@ use Rattle.problem.proofs.CountingOneMore.{none_seen, seen_all}
 use Rattle.problem.proofs.check.all.Statement.{statement}
 use Rattle.problem.proofs.check.all.Tie as tie
 
-abbrev invariant_loop : tie.invariant_loop
+abbrev invariant_loop : tie.invariant-loop-i
 invariant_loop words s kind table n seen₀ i₀ seen i =
     PassedTo (checks_of table kind (outline_of s) words) (count_of kind (outline_of s)) i × SeenTo kind (problem_in s words) i seen
 
-abbrev decreases_loop : tie.decreases_loop
+abbrev decreases_loop : tie.decreases-loop-i
 decreases_loop words s kind table n seen₀ i₀ seen i = n - i
 
 -- ════════ The points, and what is known there ════════
 
-abbrev start : tie.At-loop invariant_loop decreases_loop → tie.Start invariant_loop decreases_loop
+abbrev start : tie.At-loop-i invariant_loop decreases_loop → tie.Start invariant_loop decreases_loop
 start c = c.before.before.before.before
 
 -- How many there are of the kind.
-abbrev all : tie.At-loop invariant_loop decreases_loop → ℕ
+abbrev all : tie.At-loop-i invariant_loop decreases_loop → ℕ
 all c = count_of (start c).args.kind (outline_of (start c).args.s)
 
 -- The turn's number is one of the kind's.
-below : (c : tie.In-loop invariant_loop decreases_loop) → c.before.loop.i < all c.before
-below c = rw c.before.before.number_of.ensures at c.loop_test.true
+below : (c : tie.In-loop-i invariant_loop decreases_loop) → c.loop-i.i < all c.before
+below c = rw c.number_of-n.ensures at c.loop-i-test.true
 
 -- ════════ The needs ════════
 
-number_of_requires : tie.Need-number-of-requires invariant_loop decreases_loop
+number_of_requires : tie.Need-number_of-n-requires invariant_loop decreases_loop
 number_of_requires c κs = search rules
 
-loop_holds : tie.Need-loop-init invariant_loop decreases_loop
-loop_holds c = (passed_none, none_seen c.before.before.before.args.kind _)
+loop_holds : tie.Need-loop-i-init invariant_loop decreases_loop
+loop_holds c = (passed_none, none_seen c.args.kind _)
 
-one_requires : tie.Need-one-requires invariant_loop decreases_loop
+one_requires : tie.Need-one-r-requires invariant_loop decreases_loop
 one_requires c κs = search rules
 
-enum_told : tie.Need-enum-told invariant_loop decreases_loop
-enum_told c = c.match.keys1
+enum_told : tie.Need-enum_told-1 invariant_loop decreases_loop
+enum_told c = c.in-Passed-1.keys1
 
-enum_told_2 : tie.Need-enum-told-2 invariant_loop decreases_loop
-enum_told_2 c = c.match.keys2
+enum_told_2 : tie.Need-enum_told-in_default invariant_loop decreases_loop
+enum_told_2 c = c.in_default-1.keys2
 
-returns : tie.Need-returns invariant_loop decreases_loop
+returns : tie.Need-returns-in_default invariant_loop decreases_loop
 returns c =
-    let done = c.before.before in
+    let done = c.before in
     record {
-      answers = refused_at done.before.before.loop.invariant.0 (below done.before) done.one.result c.before.match.keys2 done.one.ensures;
-      counted = λ e. absurd (refused_not_passed done.one.result c.before.match.keys2 e);
+      answers = refused_at done.loop-i.invariant.0 (below done.before) done.one-r.result c.in_default.in_default-own.keys2 done.one-r.ensures;
+      counted = λ e. absurd (refused_not_passed done.one-r.result c.in_default.in_default-own.keys2 e);
     }
 
-with_one_requires : tie.Need-with-one-requires invariant_loop decreases_loop
-with_one_requires c κs = let turn = c.before.before.before in ((start turn.before).pre, below turn, turn.before.loop.invariant.1)
+with_one_requires : tie.Need-with_one-seen-requires invariant_loop decreases_loop
+with_one_requires c κs = let turn = c.before.before in ((start turn.before).requires, below turn, turn.loop-i.invariant.1)
 
-add_i : tie.Need-overflow-add-i invariant_loop decreases_loop
+add_i : tie.Need-overflow_add-i invariant_loop decreases_loop
 add_i c = search rules
 
-loop_less : tie.Need-loop-smaller invariant_loop decreases_loop
+loop_less : tie.Need-loop-i-smaller invariant_loop decreases_loop
 loop_less c = omega arith
 
-loop_again : tie.Need-loop-preserved invariant_loop decreases_loop
+loop_again : tie.Need-loop-i-preserved invariant_loop decreases_loop
 loop_again c =
     let told = c.before in
-    let done = told.before.before in (
-      passed_more done.before.before.loop.invariant.0 (below done.before) (rw (is_passed done.one.result told.before.match.keys1) at done.one.ensures),
-      c.with-one.ensures,
+    let done = told.before in (
+      passed_more done.loop-i.invariant.0 (below done.before) (rw (is_passed done.one-r.result told.in-Passed.in-Passed-own.keys1) at done.one-r.ensures),
+      c.with_one-seen.ensures,
     )
 
-returns_2 : tie.Need-returns-2 invariant_loop decreases_loop
+returns_2 : tie.Need-returns invariant_loop decreases_loop
 returns_2 c =
     let head = c.before in
-    let done = rw head.before.number_of.ensures at c.loop_test.false in
+    let done = rw head.number_of-n.ensures at c.loop-i-test.false in
     record {
-      answers = passed_all head.loop.invariant.0 done;
-      counted = λ e. seen_all (start head).args.kind _ head.loop.seen head.loop.invariant.0.within done head.loop.invariant.1;
+      answers = passed_all head.loop-i.invariant.0 done;
+      counted = λ e. seen_all (start head).args.kind _ head.loop-i.seen head.loop-i.invariant.0.within done head.loop-i.invariant.1;
     }
 
 pub all_spec : {M : Type 1} → statement M

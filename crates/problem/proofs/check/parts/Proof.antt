@@ -9,45 +9,45 @@ use Rattle.problem.proofs.check.parts.Tie as tie
 
 -- ════════ The points ════════
 
-abbrev nodes : tie.After-length → tie.After-all4
+abbrev nodes : tie.After-length → tie.After-all-by_nodes
 nodes c = c.before.before
 
-abbrev constraints : tie.After-length → tie.After-all3
+abbrev constraints : tie.After-length → tie.After-all-by_constraints
 constraints c = (nodes c).before
 
-abbrev gates : tie.After-length → tie.After-all2
+abbrev gates : tie.After-length → tie.After-all-by_gates
 gates c = (constraints c).before
 
-abbrev latches : tie.After-length → tie.After-all
+abbrev latches : tie.After-length → tie.After-all-by_latches
 latches c = (gates c).before.before
 
 -- ════════ The needs ════════
 
-all_requires : tie.Need-all-requires
+all_requires : tie.Need-all-by_latches-requires
 all_requires c κs = search rules
 
-all_requires_2 : tie.Need-all-requires-2
+all_requires_2 : tie.Need-all-by_gates-requires
 all_requires_2 c κs = search rules
 
-all_requires_3 : tie.Need-all-requires-3
+all_requires_3 : tie.Need-all-by_constraints-requires
 all_requires_3 c κs = search rules
 
-all_requires_4 : tie.Need-all-requires-4
+all_requires_4 : tie.Need-all-by_nodes-requires
 all_requires_4 c κs = search rules
 
 length_requires : tie.Need-length-requires
 length_requires c κs = search rules
 
-then_requires : tie.Need-then-requires
+then_requires : tie.Need-then-to_latches-requires
 then_requires c κs = search rules
 
-then_requires_2 : tie.Need-then-requires-2
+then_requires_2 : tie.Need-then-to_gates-requires
 then_requires_2 c κs = search rules
 
-then_requires_3 : tie.Need-then-requires-3
+then_requires_3 : tie.Need-then-to_constraints-requires
 then_requires_3 c κs = search rules
 
-then_requires_4 : tie.Need-then-requires-4
+then_requires_4 : tie.Need-then-requires
 then_requires_4 c κs = search rules
 
 returns : tie.Need-returns
@@ -59,25 +59,25 @@ returns c =
     let start = (latches length).before.before.before in
     let s = start.args.s in
     let ws = start.args.words.now in
-    let by-latches = (latches length).all.ensures in
-    let by-gates = (gates length).all2.ensures in
-    let by_constraints = (constraints length).all3.ensures in
-    let by-nodes = (nodes length).all4.ensures in
+    let by-latches = (latches length).all-by_latches.ensures in
+    let by-gates = (gates length).all-by_gates.ensures in
+    let by_constraints = (constraints length).all-by_constraints.ensures in
+    let by-nodes = (nodes length).all-by_nodes.ensures in
     record {
       answers =
-          c.then4.ensures.answers _ _
-          (to-constraints.then3.ensures.answers _ _
-          (to-gates.then2.ensures.answers _ _ (to_latches.then.ensures.answers _ _ length.length.ensures by-latches.answers) by-gates.answers)
+          c.then.ensures.answers _ _
+          (to-constraints.then-to_constraints.ensures.answers _ _
+          (to-gates.then-to_gates.ensures.answers _ _ (to_latches.then-to_latches.ensures.answers _ _ length.length.ensures by-latches.answers) by-gates.answers)
           by_constraints.answers)
           by-nodes.answers;
       counted = λ e.
-          let all = c.then4.ensures.both_pass e in
-          let all-but-nodes = to-constraints.then3.ensures.both_pass all.0 in
-          let to-the-gates = to-gates.then2.ensures.both_pass all-but-nodes.0 in
-          let passed = to_latches.then.ensures.both_pass to-the-gates.0 in
-          let forms = nodes_seen (problem_in s ws) (nodes length).all4.result.seen ((shows s ws).nodes_are ∙ start.pre) (by-nodes.counted all.1) in
+          let all = c.then.ensures.both_pass e in
+          let all-but-nodes = to-constraints.then-to_constraints.ensures.both_pass all.0 in
+          let to-the-gates = to-gates.then-to_gates.ensures.both_pass all-but-nodes.0 in
+          let passed = to_latches.then-to_latches.ensures.both_pass to-the-gates.0 in
+          let forms = nodes_seen (problem_in s ws) (nodes length).all-by_nodes.result.seen ((shows s ws).nodes_are ∙ start.requires) (by-nodes.counted all.1) in
           record {
-            fixed_are = latches_seen (problem_in s ws) (latches length).all.result.seen (shows s ws).latches_are (by-latches.counted passed.1);
+            fixed_are = latches_seen (problem_in s ws) (latches length).all-by_latches.result.seen (shows s ws).latches_are (by-latches.counted passed.1);
             forms_are = record { equals_are = forms.equals_are; ors_are = forms.ors_are; untils_are = forms.untils_are };
           };
     }

@@ -3,22 +3,22 @@ use borrow.Author.Rules.{rules}
 use Rattle.problem.proofs.count.numbers.Statement.{statement}
 use Rattle.problem.proofs.count.numbers.Tie as tie
 
-cast_t3 : tie.Need-overflow-cast-t3
+cast_t3 : tie.Need-overflow_cast-s
 cast_t3 c = search rules
 
-add_t4 : tie.Need-overflow-add-t4
+add_t4 : tie.Need-overflow_add-s
 add_t4 c = search rules
 
-cast_t5 : tie.Need-overflow-cast-t5
+cast_t5 : tie.Need-overflow_cast-s-2
 cast_t5 c = search rules
 
-cast_t6 : tie.Need-overflow-cast-t6
+cast_t6 : tie.Need-overflow_cast-s-3
 cast_t6 c = search rules
 
-cast_t7 : tie.Need-overflow-cast-t7
+cast_t7 : tie.Need-overflow_cast-s-4
 cast_t7 c = search rules
 
-cast_t8 : tie.Need-overflow-cast-t8
+cast_t8 : tie.Need-overflow_cast-s-5
 cast_t8 c = search rules
 
 counts_requires : tie.Need-counts-requires

@@ -18,20 +18,20 @@ use Rattle.problem.proofs.count.with_one.Tie as tie
 
 -- ════════ The points, and what is known there ════════
 
-abbrev latch_arm : tie.After-enum-told → tie.Start
-latch_arm c = c.before.before.before
+abbrev latch_arm : tie.In-Latch → tie.Start
+latch_arm c = c.before.before
 
-abbrev node_arm : tie.After-enum-told4 → tie.Start
-node_arm c = c.before.before.before
+abbrev node_arm : tie.In-Node → tie.Start
+node_arm c = c.before.before
 
 abbrev p : tie.Start → Problem
 p c = problem_in c.args.s c.args.words.now
 
-latches_to : (c : tie.After-enum-told) → let at = latch_arm c in (at.args.i < at.args.s.latches) × SeenTo Kind.Latch (p at) at.args.i at.args.seen
-latches_to c = let at = latch_arm c in kind_by (outline_of at.args.s) (p at) at.args.i at.args.seen (is at.args.kind c.before.match.keys1) (at.pre.1, at.pre.2)
+latches_to : (c : tie.In-Latch) → let at = latch_arm c in (at.args.i < at.args.s.latches) × SeenTo Kind.Latch (p at) at.args.i at.args.seen
+latches_to c = let at = latch_arm c in kind_by (outline_of at.args.s) (p at) at.args.i at.args.seen (is at.args.kind c.in-Latch.in-Latch-own.keys1) (at.requires.1, at.requires.2)
 
-nodes_to : (c : tie.After-enum-told4) → let at = node_arm c in (at.args.i < at.args.s.written_nodes) × SeenTo Kind.Node (p at) at.args.i at.args.seen
-nodes_to c = let at = node_arm c in kind_by (outline_of at.args.s) (p at) at.args.i at.args.seen (is at.args.kind c.before.match.keys4) (at.pre.1, at.pre.2)
+nodes_to : (c : tie.In-Node) → let at = node_arm c in (at.args.i < at.args.s.written_nodes) × SeenTo Kind.Node (p at) at.args.i at.args.seen
+nodes_to c = let at = node_arm c in kind_by (outline_of at.args.s) (p at) at.args.i at.args.seen (is at.args.kind c.in-Node.in-Node-own.keys4) (at.requires.1, at.requires.2)
 
 -- A node of the words is one of the formula.
 there : (at : tie.Start) → at.args.i < at.args.s.written_nodes → at.args.i < at.args.s.formula_nodes
@@ -43,54 +43,54 @@ added_by e more = rw e at more
 
 -- ════════ The needs ════════
 
-enum_told : tie.Need-enum-told
+enum_told : tie.Need-enum_told-1
 enum_told c = search rules
 
-latch_reset_requires : tie.Need-latch-reset-requires
+latch_reset_requires : tie.Need-latch_reset-requires
 latch_reset_requires c κs = search rules
 
-with_reset_requires : tie.Need-with-reset-requires
+with_reset_requires : tie.Need-with_reset-requires
 with_reset_requires c κs =
     let at = latch_arm c.before in
-    resets_few (p at) {i = at.args.i} at.args.seen (omega (arith, at.good)) (latches_to c.before).1
+    resets_few (p at) {i = at.args.i} at.args.seen (omega (arith, at.well_formed)) (latches_to c.before).1
 
-enum_told_2 : tie.Need-enum-told-2
+enum_told_2 : tie.Need-enum_told-in-Gate
 enum_told_2 c = search rules
 
-enum_told_3 : tie.Need-enum-told-3
+enum_told_3 : tie.Need-enum_told-in-Constraint
 enum_told_3 c = search rules
 
-enum_told_4 : tie.Need-enum-told-4
+enum_told_4 : tie.Need-enum_told-in-Node
 enum_told_4 c = search rules
 
-node_place_requires : tie.Need-node-place-requires
+node_place_requires : tie.Need-node_place-requires
 node_place_requires c κs = search rules
 
-word_at_requires : tie.Need-word-at-requires
+word_at_requires : tie.Need-word_at-requires
 word_at_requires c κs = search rules
 
-with_op_requires : tie.Need-with-op-requires
+with_op_requires : tie.Need-with_op-requires
 with_op_requires c κs =
     let told = c.before.before in
     let at = node_arm told in
-    forms_few (p at) {i = at.args.i} at.args.seen (omega (arith, at.good)) (nodes_to told).1
+    forms_few (p at) {i = at.args.i} at.args.seen (omega (arith, at.well_formed)) (nodes_to told).1
 
-returns : tie.Need-returns
+returns : tie.Need-returns-in-Latch
 returns c =
     let told = c.before.before in
     let at = latch_arm told in
     let to = latches_to told in
-    let reset = ap (λ n. at.args.seen.fixed + cond (ltb n 2) 1 0) c.before.latch-reset.ensures in
-    rw (is at.args.kind told.before.match.keys1)
-    (latch_more (p at) at.args.seen (rw (shows at.args.s at.args.words.now).latches_are to.0) to.1 c.with-reset.result (ap (λ (r : Seen). r.fixed) c.with-reset.ensures ∙ reset))
+    let reset = ap (λ n. at.args.seen.fixed + cond (ltb n 2) 1 0) c.latch_reset.ensures in
+    rw (is at.args.kind told.in-Latch.in-Latch-own.keys1)
+    (latch_more (p at) at.args.seen (rw (shows at.args.s at.args.words.now).latches_are to.0) to.1 c.with_reset.result (ap (λ (r : Seen). r.fixed) c.with_reset.ensures ∙ reset))
 
-returns_2 : tie.Need-returns-2
-returns_2 c = rw (is c.before.before.before.args.kind c.before.match.keys2) tt
+returns_2 : tie.Need-returns-in-Gate
+returns_2 c = rw (is c.args.kind c.in-Gate.in-Gate-own.keys2) tt
 
-returns_3 : tie.Need-returns-3
-returns_3 c = rw (is c.before.before.before.args.kind c.before.match.keys3) tt
+returns_3 : tie.Need-returns-in-Constraint
+returns_3 c = rw (is c.args.kind c.in-Constraint.in-Constraint-own.keys3) tt
 
-returns_4 : tie.Need-returns-4
+returns_4 : tie.Need-returns-in-Node
 returns_4 c =
     let read = c.before in
     let told = read.before.before in
@@ -98,11 +98,11 @@ returns_4 c =
     let to = nodes_to told in
     let s = at.args.s in
     let ws = at.args.words.now in
-    let op = read.word_at.ensures ∙ ap (word ws) read.before.node_place.ensures in
-    rw (is at.args.kind told.before.match.keys4)
-    (node_more (p at) at.args.seen (rw (shows s ws).nodes_are (there at to.0)) to.1 c.with-op.result
+    let op = read.word_at.ensures ∙ ap (word ws) read.node_place.ensures in
+    rw (is at.args.kind told.in-Node.in-Node-own.keys4)
+    (node_more (p at) at.args.seen (rw (shows s ws).nodes_are (there at to.0)) to.1 c.with_op.result
     (added_by (ap (λ n. node_of n (word ws (node_place (outline_of s) at.args.i + 1)) (word ws (node_place (outline_of s) at.args.i + 2))) op ∙ node_words_read s ws at.args.i (there at to.0))
-    (c.with-op.ensures _ _)))
+    (c.with_op.ensures _ _)))
 
 pub with_one_spec : {M : Type 1} → statement M
 with_one_spec =

@@ -6,16 +6,16 @@ use native.Mathlib.Omega.{arith}
 use Rattle.problem.proofs.count.with_reset.Statement.{statement}
 use Rattle.problem.proofs.count.with_reset.Tie as tie
 
-one_if_requires : tie.Need-one-if-requires
+one_if_requires : tie.Need-one_if-requires
 one_if_requires c κs = search rules
 
-add_t5 : tie.Need-overflow-add-t5
-add_t5 c = omega (arith, c.before.before.requires, c.before.one_if.ensures.1)
+add_t5 : tie.Need-overflow_add-result
+add_t5 c = omega (arith, c.requires, c.one_if.ensures.1)
 
 returns : tie.Need-returns
 returns c =
     let call = c.before in
-    let f = call.before.args.seen in
+    let f = call.args.seen in
     ap (λ n. record { fixed = f.fixed + n; equals = f.equals; ors = f.ors; untils = f.untils }) call.one_if.ensures.0
 
 pub with_reset_spec : {M : Type 1} → statement M

@@ -6,7 +6,7 @@ use borrow.Author.Rules.{rules}
 use Rattle.problem.proofs.header.known_version.Statement.{statement}
 use Rattle.problem.proofs.header.known_version.Tie as tie
 
-header_words_requires : tie.Need-header-words-requires
+header_words_requires : tie.Need-header_words-requires
 header_words_requires c κs = search rules
 
 by : {a b : ℕ} → a ≡ b → ltb 0 a ≡ ltb 0 b

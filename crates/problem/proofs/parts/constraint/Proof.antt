@@ -16,10 +16,10 @@ by_numbers : (o : Outline) (ws : List ℕ) (c : ℕ) {at most : ℕ} {r : PartAn
     → Answers ((literal_check ws at most ∷ []) ∷ []) r → Answers (constraint_checks o ws c ∷ []) r
 by_numbers o ws c p m a = rw (p, m) at a
 
-constraint_place_requires : tie.Need-constraint-place-requires
+constraint_place_requires : tie.Need-constraint_place-requires
 constraint_place_requires c κs = search rules
 
-largest_literal_requires : tie.Need-largest-literal-requires
+largest_literal_requires : tie.Need-largest_literal-requires
 largest_literal_requires c κs = search rules
 
 literal_requires : tie.Need-literal-requires
@@ -29,7 +29,7 @@ returns : tie.Need-returns
 returns c =
     let most = c.before in
     let placed = most.before in
-    let args = placed.before.before.args in
+    let args = placed.args in
     by_numbers (outline_of args.s) args.words.now args.c placed.constraint_place.ensures most.largest_literal.ensures c.literal.ensures
 
 pub constraint_spec : {M : Type 1} → statement M

@@ -5,6 +5,7 @@ use borrow.Author.Rules.{rules}
 use lib.Dec.{leb, ltb}
 use Rattle.meaning.specs.Problem.{Outline}
 use Rattle.meaning.specs.Check.{largest_literal, first_right}
+use Rattle.problem.specs.Promise.{outline_of}
 use Rattle.problem.proofs.parts.first_word.Statement.{statement}
 use Rattle.problem.proofs.parts.first_word.Tie as tie
 
@@ -16,14 +17,14 @@ of_some : (o : Outline) (n children a : ℕ) → (children ≡ 0 → ⊥) → lt
 of_some o n zero a some = absurd (some refl)
 of_some o n (suc c) a some = refl
 
-largest_literal_requires : tie.Need-largest-literal-requires
+largest_literal_requires : tie.Need-largest_literal-requires
 largest_literal_requires c κs = search rules
 
-returns : tie.Need-returns
-returns c = of_none _ _ _ c.before.if1.true c.largest_literal.ensures
+returns : tie.Need-returns-then-children-eq0
+returns c = of_none (outline_of c.args.s) _ _ c.if-children-eq0.true c.largest_literal.ensures
 
-returns_2 : tie.Need-returns-2
-returns_2 c = of_some _ _ _ _ c.if1.false
+returns_2 : tie.Need-returns-else-children-eq0
+returns_2 c = of_some (outline_of c.args.s) _ _ _ c.if-children-eq0.false
 
 pub first_word_spec : {M : Type 1} → statement M
 first_word_spec = tie.close (tie.spec largest_literal_requires returns returns_2)

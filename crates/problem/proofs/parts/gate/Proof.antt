@@ -43,55 +43,55 @@ module _ (o : Outline) (ws : List ℕ) (j : ℕ) {at own : ℕ} (p : at ≡ gate
 
 -- ════════ The points ════════
 
-abbrev known : tie.After-literal → tie.After-gate-limit
+abbrev known : tie.After-literal-left → tie.After-gate_limit-most
 known c = c.before
 
-abbrev placed : tie.After-literal → tie.After-gate-place
+abbrev placed : tie.After-literal-left → tie.After-gate_place-at
 placed c = (known c).before
 
-abbrev start : tie.After-literal → tie.Start
+abbrev start : tie.After-literal-left → tie.Start
 start c = (placed c).before.before
 
 -- ════════ The needs ════════
 
-gate_place_requires : tie.Need-gate-place-requires
+gate_place_requires : tie.Need-gate_place-at-requires
 gate_place_requires c κs = search rules
 
-gate_limit_requires : tie.Need-gate-limit-requires
+gate_limit_requires : tie.Need-gate_limit-most-requires
 gate_limit_requires c κs = search rules
 
-sub_most : tie.Need-overflow-sub-most
+sub_most : tie.Need-overflow_sub-most
 sub_most c = search rules
 
-literal_requires : tie.Need-literal-requires
+literal_requires : tie.Need-literal-left-requires
 literal_requires c κs = search rules
 
-enum_told : tie.Need-enum-told
+enum_told : tie.Need-enum_told-1
 enum_told c = search rules
 
-enum_told_2 : tie.Need-enum-told-2
+enum_told_2 : tie.Need-enum_told-in_default
 enum_told_2 c = search rules
 
-returns : tie.Need-returns
+returns : tie.Need-returns-in_default
 returns c =
-    let left = c.before.before in
+    let left = c.before in
     let args = (start left).args in
-    by_left (outline_of args.s) args.words.now args.j (placed left).gate_place.ensures (known left).gate_limit.ensures
-    left.literal.result c.before.match.keys2 left.literal.ensures
+    by_left (outline_of args.s) args.words.now args.j (placed left).gate_place-at.ensures (known left).gate_limit-most.ensures
+    left.literal-left.result c.in_default.in_default-own.keys2 left.literal-left.ensures
 
-add_literal : tie.Need-overflow-add-literal
+add_literal : tie.Need-overflow_add-at
 add_literal c = search rules
 
-literal_requires_2 : tie.Need-literal-requires-2
+literal_requires_2 : tie.Need-literal-requires
 literal_requires_2 c κs = search rules
 
-returns_2 : tie.Need-returns-2
+returns_2 : tie.Need-returns
 returns_2 c =
-    let told = c.before.before in
+    let told = c.before in
     let left = told.before in
     let args = (start left).args in
-    by_right (outline_of args.s) args.words.now args.j (placed left).gate_place.ensures (known left).gate_limit.ensures
-    left.literal.result told.match.keys1 left.literal.ensures c.literal2.ensures
+    by_right (outline_of args.s) args.words.now args.j (placed left).gate_place-at.ensures (known left).gate_limit-most.ensures
+    left.literal-left.result told.in-Passed.in-Passed-own.keys1 left.literal-left.ensures c.literal.ensures
 
 pub gate_spec : {M : Type 1} → statement M
 gate_spec =

@@ -35,52 +35,52 @@ module _ (o : Outline) (ws : List ℕ) (i : ℕ) {at most : ℕ} (p : at ≡ lat
 
 -- ════════ The points ════════
 
-abbrev known : tie.After-literal → tie.After-largest-literal
+abbrev known : tie.After-literal-next → tie.After-largest_literal
 known c = c.before
 
-abbrev placed : tie.After-literal → tie.After-latch-place
+abbrev placed : tie.After-literal-next → tie.After-latch_place-at
 placed c = (known c).before
 
-abbrev start : tie.After-literal → tie.Start
+abbrev start : tie.After-literal-next → tie.Start
 start c = (placed c).before.before
 
 -- ════════ The needs ════════
 
-latch_place_requires : tie.Need-latch-place-requires
+latch_place_requires : tie.Need-latch_place-at-requires
 latch_place_requires c κs = search rules
 
-largest_literal_requires : tie.Need-largest-literal-requires
+largest_literal_requires : tie.Need-largest_literal-requires
 largest_literal_requires c κs = search rules
 
-literal_requires : tie.Need-literal-requires
+literal_requires : tie.Need-literal-next-requires
 literal_requires c κs = search rules
 
-enum_told : tie.Need-enum-told
+enum_told : tie.Need-enum_told-1
 enum_told c = search rules
 
-enum_told_2 : tie.Need-enum-told-2
+enum_told_2 : tie.Need-enum_told-in_default
 enum_told_2 c = search rules
 
-returns : tie.Need-returns
+returns : tie.Need-returns-in_default
 returns c =
-    let next = c.before.before in
+    let next = c.before in
     let args = (start next).args in
-    by_next (outline_of args.s) args.words.now args.i (placed next).latch_place.ensures (known next).largest_literal.ensures
-    next.literal.result c.before.match.keys2 next.literal.ensures
+    by_next (outline_of args.s) args.words.now args.i (placed next).latch_place-at.ensures (known next).largest_literal.ensures
+    next.literal-next.result c.in_default.in_default-own.keys2 next.literal-next.ensures
 
-add_reset : tie.Need-overflow-add-reset
+add_reset : tie.Need-overflow_add-at
 add_reset c = search rules
 
 reset_requires : tie.Need-reset-requires
 reset_requires c κs = search rules
 
-returns_2 : tie.Need-returns-2
+returns_2 : tie.Need-returns
 returns_2 c =
-    let told = c.before.before in
+    let told = c.before in
     let next = told.before in
     let args = (start next).args in
-    by_reset (outline_of args.s) args.words.now args.i (placed next).latch_place.ensures (known next).largest_literal.ensures
-    next.literal.result told.match.keys1 next.literal.ensures c.reset.ensures
+    by_reset (outline_of args.s) args.words.now args.i (placed next).latch_place-at.ensures (known next).largest_literal.ensures
+    next.literal-next.result told.in-Passed.in-Passed-own.keys1 next.literal-next.ensures c.reset.ensures
 
 pub latch_spec : {M : Type 1} → statement M
 latch_spec =

@@ -17,11 +17,11 @@ of_two n zero b two = absurd (omega arith)
 of_two n (suc zero) b two = absurd (omega arith)
 of_two n (suc (suc c)) b two = refl
 
-returns : tie.Need-returns
-returns c = of_few _ _ _ c.if1.true
+returns : tie.Need-returns-then-children-lt2
+returns c = of_few _ _ _ c.if-children-lt2.true
 
-returns_2 : tie.Need-returns-2
-returns_2 c = of_two _ _ _ c.if1.false
+returns_2 : tie.Need-returns-else-children-lt2
+returns_2 c = of_two _ _ _ c.if-children-lt2.false
 
 pub second_word_spec : {M : Type 1} → statement M
 second_word_spec = tie.close (tie.spec returns returns_2)

@@ -5,23 +5,23 @@ use Rattle.problem.proofs.Outlines.{left_read, left_past}
 use Rattle.problem.proofs.read.gate_left.Statement.{statement}
 use Rattle.problem.proofs.read.gate_left.Tie as tie
 
-abbrev start : tie.After-word-at → tie.Start
+abbrev start : tie.After-word_at → tie.Start
 start c = c.before.before.before.before.before
 
-gate_place_requires : tie.Need-gate-place-requires
+gate_place_requires : tie.Need-gate_place-requires
 gate_place_requires c κs = search rules
 
-word_at_requires : tie.Need-word-at-requires
+word_at_requires : tie.Need-word_at-requires
 word_at_requires c κs = search rules
 
-returns : tie.Need-returns
+returns : tie.Need-returns-then-j-s
 returns c =
-    rw (← (left_read (start c).args.s (start c).args.words.now (start c).args.j c.before.before.if1.true), ← c.before.gate_place.ensures) c.word_at.ensures
+    rw (← (left_read (start c).args.s (start c).args.words.now (start c).args.j c.if-j-s.true), ← c.gate_place.ensures) c.word_at.ensures
 
-returns_2 : tie.Need-returns-2
+returns_2 : tie.Need-returns-else-j-s
 returns_2 c =
     let entry = c.before.before.before in
-    sym (left_past entry.args.s entry.args.words.now entry.args.j c.if1.false)
+    sym (left_past entry.args.s entry.args.words.now entry.args.j c.if-j-s.false)
 
 pub gate_left_spec : {M : Type 1} → statement M
 gate_left_spec = tie.close (tie.spec gate_place_requires word_at_requires returns returns_2)

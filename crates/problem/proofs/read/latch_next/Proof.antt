@@ -5,23 +5,23 @@ use Rattle.problem.proofs.Outlines.{next_read, next_past}
 use Rattle.problem.proofs.read.latch_next.Statement.{statement}
 use Rattle.problem.proofs.read.latch_next.Tie as tie
 
-abbrev start : tie.After-word-at → tie.Start
+abbrev start : tie.After-word_at → tie.Start
 start c = c.before.before.before.before.before
 
-latch_place_requires : tie.Need-latch-place-requires
+latch_place_requires : tie.Need-latch_place-requires
 latch_place_requires c κs = search rules
 
-word_at_requires : tie.Need-word-at-requires
+word_at_requires : tie.Need-word_at-requires
 word_at_requires c κs = search rules
 
-returns : tie.Need-returns
+returns : tie.Need-returns-then-i-s
 returns c =
-    rw (← (next_read (start c).args.s (start c).args.words.now (start c).args.i c.before.before.if1.true), ← c.before.latch_place.ensures) c.word_at.ensures
+    rw (← (next_read (start c).args.s (start c).args.words.now (start c).args.i c.if-i-s.true), ← c.latch_place.ensures) c.word_at.ensures
 
-returns_2 : tie.Need-returns-2
+returns_2 : tie.Need-returns-else-i-s
 returns_2 c =
     let entry = c.before.before.before in
-    sym (next_past entry.args.s entry.args.words.now entry.args.i c.if1.false)
+    sym (next_past entry.args.s entry.args.words.now entry.args.i c.if-i-s.false)
 
 pub latch_next_spec : {M : Type 1} → statement M
 latch_next_spec = tie.close (tie.spec latch_place_requires word_at_requires returns returns_2)

@@ -22,23 +22,23 @@ clause_part ws i j e =
     let n : j - i ≡ length (clause_from ws i) = omega arith in
     rw n (up_to_0_part (drop i ws))
 
-clause_end_requires : tie.Need-clause-end-requires
+clause_end_requires : tie.Need-clause_end-end-requires
 clause_end_requires c κs = search rules
 
-mul_result : tie.Need-overflow-mul-result
+mul_result : tie.Need-offset_bounds-words-from
 mul_result c = search rules
 
-sub_result : tie.Need-overflow-sub-result
+sub_result : tie.Need-slice_bounds-result-count
 sub_result c = search rules
 
-part_result_start : tie.Need-slice-bounds-result-start
+part_result_start : tie.Need-slice_bounds-result-start
 part_result_start c = search rules
 
-part_result_end : tie.Need-slice-bounds-result-end
+part_result_end : tie.Need-slice_bounds-result-end
 part_result_end c = search rules
 
 returns : tie.Need-returns
-returns c = clause_part _ _ _ c.before.clause-end.ensures.0
+returns c = clause_part _ _ _ c.clause_end-end.ensures.0
 
 pub clause_at_spec : {M : Type 1} → statement M
 clause_at_spec =

@@ -5,29 +5,29 @@ use borrow.Author.Rules.{rules}
 use Rattle.refutation.proofs.places.lookup.Statement.{statement}
 use Rattle.refutation.proofs.places.lookup.Tie as tie
 
-abbrev start : tie.After-shared-slice-known2 → tie.Start
+abbrev start : tie.After-shared_slice_known-2-1 → tie.Start
 start c = c.before.before
 
-sub_from : tie.Need-overflow-sub-from
+sub_from : tie.Need-overflow_sub-from
 sub_from c = search rules
 
-mul_from : tie.Need-overflow-mul-from
+mul_from : tie.Need-offset_bounds-area-number
 mul_from c = search rules
 
-shared_slice_read_from : tie.Need-shared-slice-read-from
+shared_slice_read_from : tie.Need-bounds-area-number
 shared_slice_read_from c = search rules
 
-clause_at_requires : tie.Need-clause-at-requires
+clause_at_requires : tie.Need-clause_at-requires
 clause_at_requires c κs = (start c.before).requires.1.0 (omega arith)
 
-clause_at_requires_2 : tie.Need-clause-at-requires-2
+clause_at_requires_2 : tie.Need-clause_at-requires-else-number-clauses
 clause_at_requires_2 c κs = (start c.before).requires.1.1 (omega arith)
 
-returns : tie.Need-returns
-returns c = ((λ h. c.clause-at.ensures), (λ h. absurd (omega arith)))
+returns : tie.Need-returns-then-number-clauses
+returns c = ((λ h. c.clause_at.ensures), (λ h. absurd (omega arith)))
 
-returns_2 : tie.Need-returns-2
-returns_2 c = ((λ h. absurd (omega arith)), (λ h. c.clause-at2.ensures))
+returns_2 : tie.Need-returns-else-number-clauses
+returns_2 c = ((λ h. absurd (omega arith)), (λ h. c.clause_at-else-number-clauses.ensures))
 
 pub lookup_spec : {M : Type 1} → statement M
 lookup_spec =

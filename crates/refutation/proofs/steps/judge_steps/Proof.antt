@@ -10,148 +10,148 @@ use Rattle.refutation.proofs.JudgeSteps.{Judging, none_judged, all_judged, hints
 use Rattle.refutation.proofs.steps.judge_steps.Statement.{statement}
 use Rattle.refutation.proofs.steps.judge_steps.Tie as tie
 
-abbrev invariant_loop : tie.invariant_loop
+abbrev invariant_loop : tie.invariant-loop-at
 invariant_loop limit cnf words base values₀ places₀ done₀ closed₀ at₀ values places done closed at =
     Judging limit cnf words base values₀ places₀ values places done closed at
 
-abbrev decreases_loop : tie.decreases_loop
+abbrev decreases_loop : tie.decreases-loop-at
 decreases_loop limit cnf words base values₀ places₀ done₀ closed₀ at₀ values places done closed at =
     length words - at
 
 -- The points: a turn of the loop begins, the step's clause and its hints are found, and the step is judged.
-abbrev start : tie.At-loop invariant_loop decreases_loop → tie.Start invariant_loop decreases_loop
+abbrev start : tie.At-loop-at invariant_loop decreases_loop → tie.Start invariant_loop decreases_loop
 start c = c.before.before.before
 
-abbrev turn : tie.After-clause-at invariant_loop decreases_loop → tie.At-loop invariant_loop decreases_loop
+abbrev turn : tie.After-clause_at-clause invariant_loop decreases_loop → tie.At-loop-at invariant_loop decreases_loop
 turn c = c.before.before
 
-abbrev found : tie.After-accepted invariant_loop decreases_loop → tie.After-clause-at2 invariant_loop decreases_loop
-found c = c.before.before.before
+abbrev found : tie.After-accepted invariant_loop decreases_loop → tie.After-clause_at-hints invariant_loop decreases_loop
+found c = c.before.before
 
-abbrev judged : tie.After-slice-known3 invariant_loop decreases_loop → tie.After-accepted invariant_loop decreases_loop
+abbrev judged : tie.After-slice_known-in-loop-at-1 invariant_loop decreases_loop → tie.After-accepted invariant_loop decreases_loop
 judged c = c.before.before
 
-loop_holds : tie.Need-loop-init invariant_loop decreases_loop
+loop_holds : tie.Need-loop-at-init invariant_loop decreases_loop
 loop_holds c =
-    let pre = c.before.before.requires in
+    let pre = c.requires in
     none_judged pre.0 pre.1.0 pre.1.1.0
 
-clause_at_requires : tie.Need-clause-at-requires invariant_loop decreases_loop
+clause_at_requires : tie.Need-clause_at-clause-requires invariant_loop decreases_loop
 clause_at_requires c κs = search rules
 
-clause_at_requires_2 : tie.Need-clause-at-requires-2 invariant_loop decreases_loop
-clause_at_requires_2 c κs = hints_begin (turn c).loop.invariant c.before.loop_test.true c.clause-at.ensures
+clause_at_requires_2 : tie.Need-clause_at-hints-requires invariant_loop decreases_loop
+clause_at_requires_2 c κs = hints_begin (turn c).loop-at.invariant c.loop-at-test.true c.clause_at-clause.ensures
 
-add_from : tie.Need-overflow-add-from invariant_loop decreases_loop
+add_from : tie.Need-overflow_add-from invariant_loop decreases_loop
 add_from c =
-    omega (arith, (start (turn c)).good, hints_begin (turn c).loop.invariant c.before.loop_test.true c.clause-at.ensures)
+    omega (arith, (start (turn c)).well_formed, hints_begin (turn c).loop-at.invariant c.loop-at-test.true c.clause_at-clause.ensures)
 
-add_from_2 : tie.Need-overflow-add-from-2 invariant_loop decreases_loop
+add_from_2 : tie.Need-overflow_add-from-in-loop-at invariant_loop decreases_loop
 add_from_2 c =
-    omega (arith, (start (turn c)).good, hints_begin (turn c).loop.invariant c.before.loop_test.true c.clause-at.ensures)
+    omega (arith, (start (turn c)).well_formed, hints_begin (turn c).loop-at.invariant c.loop-at-test.true c.clause_at-clause.ensures)
 
 accepted_requires : tie.Need-accepted-requires invariant_loop decreases_loop
 accepted_requires c κs =
-    let p = c.before.before in
+    let p = c.before in
     let first = p.before in
-    let j = (turn first).loop.invariant in
-    (j.standing, (j.older, parts_right j first.before.loop_test.true first.clause-at.ensures p.clause-at2.ensures))
+    let j = (turn first).loop-at.invariant in
+    (j.standing, (j.older, parts_right j first.loop-at-test.true first.clause_at-clause.ensures p.clause_at-hints.ensures))
 
 -- What the turn's calls gave.
-module _ (c : tie.After-slice-known3 invariant_loop decreases_loop) where
+module _ (c : tie.After-slice_known-in-loop-at-1 invariant_loop decreases_loop) where
   abbrev call : tie.After-accepted invariant_loop decreases_loop
   call = judged c
 
-  abbrev hints_found : tie.After-clause-at2 invariant_loop decreases_loop
+  abbrev hints_found : tie.After-clause_at-hints invariant_loop decreases_loop
   hints_found = found call
 
-  abbrev clause_found : tie.After-clause-at invariant_loop decreases_loop
+  abbrev clause_found : tie.After-clause_at-clause invariant_loop decreases_loop
   clause_found = hints_found.before
 
-  abbrev here : tie.At-loop invariant_loop decreases_loop
+  abbrev here : tie.At-loop-at invariant_loop decreases_loop
   here = turn clause_found
 
-  below : here.loop.at < length (start here).args.words.now
-  below = clause_found.before.loop_test.taken
+  below : here.loop-at.at < length (start here).args.words.now
+  below = clause_found.before.loop-at-test.true
 
-  long : length call.accepted.last.1.1.1.1.1.0 ≡ length here.loop.values
-  long = call.accepted.kept.1.1.1.1.1.0
+  long : length call.accepted.new.values ≡ length here.loop-at.values
+  long = call.accepted.auto.values
 
-  room : (start here).args.base + here.loop.done < length here.loop.places
-  room = omega (arith, step_room here.loop.inv below clause_found.clause-at.ensures, (start here).pre.1.1.1, here.loop.inv.places_long)
+  room : (start here).args.base + here.loop-at.done < length here.loop-at.places
+  room = omega (arith, step_room here.loop-at.invariant below clause_found.clause_at-clause.ensures, (start here).requires.1.1.1, here.loop-at.invariant.places_long)
 
-  end : here.loop.at + length clause_found.clause-at.result.now + 1 + length hints_found.clause-at2.result.now + 1 ≤ length (start here).args.words.now
-  end = step_end here.loop.inv below clause_found.clause-at.ensures hints_found.clause-at2.ensures
+  end : here.loop-at.at + length clause_found.clause_at-clause.result.now + 1 + length hints_found.clause_at-hints.result.now + 1 ≤ length (start here).args.words.now
+  end = step_end here.loop-at.invariant below clause_found.clause_at-clause.ensures hints_found.clause_at-hints.ensures
 
-same_length : tie.Need-same-length invariant_loop decreases_loop
-same_length c = long c.before ∙ (here c.before).loop.inv.values_long
+same_length : tie.Need-shape_of-values-then-not-accepted invariant_loop decreases_loop
+same_length c = long c.before ∙ (here c.before).loop-at.invariant.values_long
 
-same_length_2 : tie.Need-same-length-2 invariant_loop decreases_loop
-same_length_2 c = (here c.before).loop.inv.places_long
+same_length_2 : tie.Need-shape_of-places-then-not-accepted invariant_loop decreases_loop
+same_length_2 c = (here c.before).loop-at.invariant.places_long
 
-returns : tie.Need-returns invariant_loop decreases_loop
+returns : tie.Need-returns-then-not-accepted invariant_loop decreases_loop
 returns c =
     let s = c.before in
     let answer = (call s).accepted in
-    let j = (here s).loop.invariant in
-    let no = not-true answer.result c.if1.true in (
-      sym (step_refusal j (below s) (clause_found s).clause-at.ensures (hints_found s).clause-at2.ensures (sym no ∙ answer.ensures.0)),
+    let j = (here s).loop-at.invariant in
+    let no = not-true answer.result c.if-not-accepted.true-raw in (
+      sym (step_refusal j (below s) (clause_found s).clause_at-clause.ensures (hints_found s).clause_at-hints.ensures (sym no ∙ answer.ensures.0)),
       (answer.ensures.1.past ∙ j.values_past, j.places_past),
     )
 
-add_places : tie.Need-overflow-add-places invariant_loop decreases_loop
-add_places c = omega (arith, room c.before, (start (here c.before)).good, (here c.before).loop.inv.places_long)
+add_places : tie.Need-overflow_add-places invariant_loop decreases_loop
+add_places c = omega (arith, room c.before, (start (here c.before)).well_formed, (here c.before).loop-at.invariant.places_long)
 
-mul_places : tie.Need-overflow-mul-places invariant_loop decreases_loop
-mul_places c = omega (arith, room c.before, (start (here c.before)).good, (here c.before).loop.inv.places_long)
+mul_places : tie.Need-offset_bounds-places-base invariant_loop decreases_loop
+mul_places c = omega (arith, room c.before, (start (here c.before)).well_formed, (here c.before).loop-at.invariant.places_long)
 
-slice_write_places : tie.Need-slice-write-places invariant_loop decreases_loop
+slice_write_places : tie.Need-bounds-places-base invariant_loop decreases_loop
 slice_write_places c = room c.before
 
-add_done : tie.Need-overflow-add-done invariant_loop decreases_loop
-add_done c = omega (arith, room c.before, (start (here c.before)).good, (here c.before).loop.inv.places_long)
+add_done : tie.Need-overflow_add-done invariant_loop decreases_loop
+add_done c = omega (arith, room c.before, (start (here c.before)).well_formed, (here c.before).loop-at.invariant.places_long)
 
-add_at : tie.Need-overflow-add-at invariant_loop decreases_loop
-add_at c = omega (arith, end c.before, (start (here c.before)).good)
+add_at : tie.Need-overflow_add-at invariant_loop decreases_loop
+add_at c = omega (arith, end c.before, (start (here c.before)).well_formed)
 
-add_at_2 : tie.Need-overflow-add-at-2 invariant_loop decreases_loop
-add_at_2 c = omega (arith, end c.before, (start (here c.before)).good)
+add_at_2 : tie.Need-overflow_add-at-in-loop-at invariant_loop decreases_loop
+add_at_2 c = omega (arith, end c.before, (start (here c.before)).well_formed)
 
-loop_less : tie.Need-loop-smaller invariant_loop decreases_loop
+loop_less : tie.Need-loop-at-smaller invariant_loop decreases_loop
 loop_less c = omega (arith, end c.before, below c.before)
 
-loop_again : tie.Need-loop-preserved invariant_loop decreases_loop
+loop_again : tie.Need-loop-at-preserved invariant_loop decreases_loop
 loop_again c =
     let s = c.before in
     let answer = (call s).accepted in
-    let yes = not-false answer.result c.if1.false in
-    step_judged (here s).loop.invariant (below s) (clause_found s).clause-at.ensures (hints_found s).clause-at2.ensures
-    (start (here s)).pre.1.1.1
+    let yes = not-false answer.result c.if-not-accepted.false-raw in
+    step_judged (here s).loop-at.invariant (below s) (clause_found s).clause_at-clause.ensures (hints_found s).clause_at-hints.ensures
+    (start (here s)).requires.1.1.1
     (sym yes ∙ answer.ensures.0)
     answer.ensures.1
     (long s)
 
-same_length_3 : tie.Need-same-length-3 invariant_loop decreases_loop
-same_length_3 c = c.before.before.loop.invariant.values_long
+same_length_3 : tie.Need-shape_of-values-then-closed invariant_loop decreases_loop
+same_length_3 c = c.loop-at.invariant.values_long
 
-same_length_4 : tie.Need-same-length-4 invariant_loop decreases_loop
-same_length_4 c = c.before.before.loop.invariant.places_long
+same_length_4 : tie.Need-shape_of-places-then-closed invariant_loop decreases_loop
+same_length_4 c = c.loop-at.invariant.places_long
 
-returns_2 : tie.Need-returns-2 invariant_loop decreases_loop
+returns_2 : tie.Need-returns-then-closed invariant_loop decreases_loop
 returns_2 c =
-    let j = c.before.before.loop.invariant in
-    (sym (all_judged j c.before.loop_test.false ∙ rw c.if2.true), (j.values_past, j.places_past))
+    let j = c.loop-at.invariant in
+    (sym (all_judged j c.loop-at-test.false ∙ rw c.if-closed.true), (j.values_past, j.places_past))
 
-same_length_5 : tie.Need-same-length-5 invariant_loop decreases_loop
-same_length_5 c = c.before.before.loop.invariant.values_long
+same_length_5 : tie.Need-shape_of-values-else-closed invariant_loop decreases_loop
+same_length_5 c = c.loop-at.invariant.values_long
 
-same_length_6 : tie.Need-same-length-6 invariant_loop decreases_loop
-same_length_6 c = c.before.before.loop.invariant.places_long
+same_length_6 : tie.Need-shape_of-places-else-closed invariant_loop decreases_loop
+same_length_6 c = c.loop-at.invariant.places_long
 
-returns_3 : tie.Need-returns-3 invariant_loop decreases_loop
+returns_3 : tie.Need-returns-else-closed invariant_loop decreases_loop
 returns_3 c =
-    let j = c.before.before.loop.invariant in
-    (sym (all_judged j c.before.loop_test.false ∙ rw c.if2.false), (j.values_past, j.places_past))
+    let j = c.loop-at.invariant in
+    (sym (all_judged j c.loop-at-test.false ∙ rw c.if-closed.false), (j.values_past, j.places_past))
 
 pub judge_steps_spec : {M : Type 1} → statement M
 judge_steps_spec =

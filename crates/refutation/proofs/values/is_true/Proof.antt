@@ -12,14 +12,14 @@ start c = c.before.before
 variable_requires : tie.Need-variable-requires
 variable_requires c κs = search rules
 
-mul_result : tie.Need-overflow-mul-result
+mul_result : tie.Need-offset_bounds-area-variable
 mul_result c =
     let v = rw (word_is _ (start c).ranges.w) at c.variable.ensures in
     omega arith
 
-shared_slice_read_result : tie.Need-shared-slice-read-result
+shared_slice_read_result : tie.Need-bounds-area-variable
 shared_slice_read_result c =
-    let v = rw (word_is _ (start c.before).ranges.w) at c.before.variable.ensures in
+    let v = rw (word_is _ (start c.before).ranges.w) at c.variable.ensures in
     omega arith
 
 mark_requires : tie.Need-mark-requires

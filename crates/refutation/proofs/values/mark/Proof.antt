@@ -20,20 +20,20 @@ mark_not_negative : (stamp : ℕ) (w : ℤ) → lt_z w (pos 0) ≡ false → 2 *
 mark_not_negative stamp (pos n) e = refl
 mark_not_negative stamp (negsuc n) e = absurd (true≢false e)
 
-mul_result : tie.Need-overflow-mul-result
+mul_result : tie.Need-overflow_mul-result
 mul_result c = search rules
 
-mul_result_2 : tie.Need-overflow-mul-result-2
+mul_result_2 : tie.Need-overflow_mul-result-else-w-lt0
 mul_result_2 c = search rules
 
-add_result : tie.Need-overflow-add-result
+add_result : tie.Need-overflow_add-result
 add_result c = search rules
 
-returns : tie.Need-returns
-returns c = mark_negative _ c.before.args.w (rw (to_z-of_z c.before.ranges.w) at c.if1.true)
+returns : tie.Need-returns-then-w-lt0
+returns c = mark_negative _ c.args.w (rw (to_z-of_z c.ranges.w) at c.if-w-lt0.true)
 
-returns_2 : tie.Need-returns-2
-returns_2 c = mark_not_negative _ c.before.args.w (rw (to_z-of_z c.before.ranges.w) at c.if1.false)
+returns_2 : tie.Need-returns-else-w-lt0
+returns_2 c = mark_not_negative _ c.args.w (rw (to_z-of_z c.ranges.w) at c.if-w-lt0.false)
 
 pub mark_spec : {M : Type 1} → statement M
 mark_spec = tie.close (tie.spec mul_result mul_result_2 add_result returns returns_2)

@@ -23,20 +23,20 @@ mark_false_not_positive stamp (pos zero) e = refl
 mark_false_not_positive stamp (pos (suc n)) e = absurd (not-suc-le-zero (ltb-false 0 (suc n) e))
 mark_false_not_positive stamp (negsuc n) e = refl
 
-mul_result : tie.Need-overflow-mul-result
+mul_result : tie.Need-overflow_mul-result
 mul_result c = search rules
 
-mul_result_2 : tie.Need-overflow-mul-result-2
+mul_result_2 : tie.Need-overflow_mul-result-else-w-gt0
 mul_result_2 c = search rules
 
-add_result : tie.Need-overflow-add-result
+add_result : tie.Need-overflow_add-result
 add_result c = search rules
 
-returns : tie.Need-returns
-returns c = mark_false_positive _ c.before.args.w (rw (to_z-of_z c.before.ranges.w) at c.if1.true)
+returns : tie.Need-returns-then-w-gt0
+returns c = mark_false_positive _ c.args.w (rw (to_z-of_z c.ranges.w) at c.if-w-gt0.true)
 
-returns_2 : tie.Need-returns-2
-returns_2 c = mark_false_not_positive _ c.before.args.w (rw (to_z-of_z c.before.ranges.w) at c.if1.false)
+returns_2 : tie.Need-returns-else-w-gt0
+returns_2 c = mark_false_not_positive _ c.args.w (rw (to_z-of_z c.ranges.w) at c.if-w-gt0.false)
 
 pub mark_false_spec : {M : Type 1} → statement M
 mark_false_spec = tie.close (tie.spec mul_result mul_result_2 add_result returns returns_2)

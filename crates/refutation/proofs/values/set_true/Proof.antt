@@ -9,27 +9,27 @@ use Rattle.refutation.proofs.values.set_true.Tie as tie
 abbrev start : tie.After-mark → tie.Start
 start c = c.before.before.before
 
-variable_requires : tie.Need-variable-requires
+variable_requires : tie.Need-variable-v-requires
 variable_requires c κs = search rules
 
 mark_requires : tie.Need-mark-requires
 mark_requires c κs = search rules
 
-slice_write_area : tie.Need-slice-write-area
+slice_write_area : tie.Need-bounds-area-v
 slice_write_area c =
     let s = start c in
-    rw (c.before.variable.ensures, word_is s.args.w s.fits.w) (set_true_fits s.args.w s.pre.1 s.pre.2)
+    rw (c.variable-v.ensures, word_is s.args.w s.ranges.w) (set_true_fits s.args.w s.requires.1 s.requires.2)
 
-mul_area : tie.Need-overflow-mul-area
+mul_area : tie.Need-offset_bounds-area-v
 mul_area c = omega (arith, slice_write_area c)
 
-same_length : tie.Need-same-length
+same_length : tie.Need-shape_of-area
 same_length c = search rules
 
 returns : tie.Need-returns
 returns c =
     let s = start c in
-    rw (c.before.variable.ensures, c.mark.ensures, word_is s.args.w s.fits.w) (set_true s.args.w s.pre.1 s.pre.2)
+    rw (c.variable-v.ensures, c.mark.ensures, word_is s.args.w s.ranges.w) (set_true s.args.w s.requires.1 s.requires.2)
 
 pub set_true_spec : {M : Type 1} → statement M
 set_true_spec =

@@ -18,92 +18,92 @@ use Rattle.refutation.proofs.CountSteps.{tally, step_ended, step_left, tally_0, 
 use Rattle.refutation.proofs.words.count_steps.Statement.{statement}
 use Rattle.refutation.proofs.words.count_steps.Tie as tie
 
-abbrev invariant_loop : tie.invariant_loop
+abbrev invariant_loop : tie.invariant-loop-i
 invariant_loop variables clauses refutation limit steps₀ hints₀ open₀ i₀ steps hints «open» i =
     (i ≤ length refutation)
     × (steps ≤ i)
     × (first_failing (refutation_checks variables clauses refutation) (granted (length (steps_of refutation)))
     ≡ rest (reader variables clauses) (tally steps hints «open») i refutation)
 
-abbrev decreases_loop : tie.decreases_loop
+abbrev decreases_loop : tie.decreases-loop-i
 decreases_loop variables clauses refutation limit steps₀ hints₀ open₀ i₀ steps hints «open» i = length refutation - i
 
 -- The points: a turn of the loop begins, its word is read, and it is tested.
-abbrev turn : tie.After-w invariant_loop decreases_loop → tie.At-loop invariant_loop decreases_loop
+abbrev turn : tie.After-w-1 invariant_loop decreases_loop → tie.At-loop-i invariant_loop decreases_loop
 turn c = c.before.before
 
-abbrev tested : tie.Joined2 invariant_loop decreases_loop → tie.After-word-right invariant_loop decreases_loop
+abbrev tested : tie.Joined-w-eq0 invariant_loop decreases_loop → tie.After-word_right invariant_loop decreases_loop
 tested c = c.before.before
 
-abbrev entry : tie.After-w invariant_loop decreases_loop → tie.Start invariant_loop decreases_loop
+abbrev entry : tie.After-w-1 invariant_loop decreases_loop → tie.Start invariant_loop decreases_loop
 entry c = (turn c).before
 
 -- The word that was read, as the slice has it.
-abbrev word_read : tie.After-w invariant_loop decreases_loop → ℤ
-word_read c = get_or (entry c).args.refutation.now (turn c).loop.i (pos 0)
+abbrev word_read : tie.After-w-1 invariant_loop decreases_loop → ℤ
+word_read c = get_or (entry c).args.refutation.now (turn c).loop-i.i (pos 0)
 
-loop_holds : tie.Need-loop-init invariant_loop decreases_loop
+loop_holds : tie.Need-loop-i-init invariant_loop decreases_loop
 loop_holds c = (omega arith, omega arith, read_refutation _ _ _)
 
-mul_w : tie.Need-overflow-mul-w invariant_loop decreases_loop
+mul_w : tie.Need-offset_bounds-refutation-i invariant_loop decreases_loop
 mul_w c = omega arith
 
-shared_slice_copy_out_w : tie.Need-shared-slice-copy-out-w invariant_loop decreases_loop
+shared_slice_copy_out_w : tie.Need-bounds-refutation-i invariant_loop decreases_loop
 shared_slice_copy_out_w c = omega arith
 
-word_right_requires : tie.Need-word-right-requires invariant_loop decreases_loop
+word_right_requires : tie.Need-word_right-requires invariant_loop decreases_loop
 word_right_requires c κs = tt
 
-fits : (c : tie.After-w invariant_loop decreases_loop) → SFits w32 (word_read c)
-fits c = record { sfits = c.w.given }
+fits : (c : tie.After-w-1 invariant_loop decreases_loop) → SFits w32 (word_read c)
+fits c = record { sfits = c.w-1.given }
 
-result_is : (c : tie.After-word-right invariant_loop decreases_loop)
+result_is : (c : tie.After-word_right invariant_loop decreases_loop)
     → let read = c.before in
     c.word_right.result
-    ≡ right_in (entry read).args.variables (part_of (turn read).loop.hints) (suc ((entry read).args.clauses + (turn read).loop.steps)) (word_read read)
+    ≡ right_in (entry read).args.variables (part_of (turn read).loop-i.hints) (suc ((entry read).args.clauses + (turn read).loop-i.steps)) (word_read read)
 result_is c =
     let read = c.before in
-    let now = (turn read).loop in
+    let now = (turn read).loop-i in
     rw (word_is _ (fits read)) at c.word_right.ensures
     ∙ right_by_part (entry read).args.variables (suc ((entry read).args.clauses + now.steps)) now.hints (word_read read)
 
-returns : tie.Need-returns invariant_loop decreases_loop
+returns : tie.Need-returns-then-not-word_right invariant_loop decreases_loop
 returns c =
     let v = c.before in
     sym
-    ((turn v.before).loop.inv.2
-    ∙ at_wrong _ _ _ _ v.before.before.loop_test.true (sym (result_is v) ∙ not-true _ c.if1.true))
+    ((turn v.before).loop-i.invariant.2
+    ∙ at_wrong (reader _ _) _ _ _ v.loop-i-test.true (sym (result_is v) ∙ not-true _ c.if-not-word_right.true-raw))
 
-add_steps : tie.Need-overflow-add-steps invariant_loop decreases_loop
+add_steps : tie.Need-overflow_add-steps invariant_loop decreases_loop
 add_steps c = omega arith
 
-add_i : tie.Need-overflow-add-i invariant_loop decreases_loop
+add_i : tie.Need-overflow_add-i invariant_loop decreases_loop
 add_i c = omega arith
 
-loop_less : tie.Need-loop-smaller invariant_loop decreases_loop
+loop_less : tie.Need-loop-i-smaller invariant_loop decreases_loop
 loop_less c = omega arith
 
-loop_again : tie.Need-loop-preserved invariant_loop decreases_loop
+loop_again : tie.Need-loop-i-preserved invariant_loop decreases_loop
 loop_again c =
     let read = (tested c).before in
-    let now = (turn read).loop in
+    let now = (turn read).loop-i in
     let w = word_read read in
     let t = tally now.steps now.hints now.«open» in (
       omega arith,
-      ⊎_elim (λ a. ⊎_elim (λ b. omega arith) (λ b. omega arith) a.1.came) (λ a. omega arith) c.if2.branch,
-      now.inv.2 ∙ at_right _ _ _ _ read.before.loop_test.taken
-          (sym (result_is (tested c)) ∙ not-false _ c.before.if1.false)
+      ⊎_elim (λ a. ⊎_elim (λ b. omega arith) (λ b. omega arith) a.if-hints.branch-raw) (λ a. omega arith) c.if-w-eq0.branch-raw,
+      now.invariant.2 ∙ at_right (reader _ _) _ _ _ read.loop-i-test.true
+          (sym (result_is (tested c)) ∙ not-false _ c.if-not-word_right.false-raw)
           (⊎_elim
-          (λ a. tally_0 t w (at_0 w (fits read) a.0.taken) (a.2 ∙ ⊎_elim (λ b. step_ended t b.0.taken b.1) (λ b. step_left t b.0.left b.1) a.1.came) a.3 a.4)
-          (λ a. tally_other t w (not_0 w a.0.left) a.1 a.2 a.3)
-          c.if2.branch),
+          (λ a. tally_0 t w (at_0 w (fits read) a.if-w-eq0.true) (a.steps-is ∙ ⊎_elim (λ b. step_ended t b.if-hints.true b.steps-is) (λ b. step_left t b.if-hints.false b.steps-is) a.if-hints.branch-raw) a.hints-is a.open-is)
+          (λ a. tally_other t w (not_0 w a.if-w-eq0.false) a.steps-is a.hints-is a.open-is)
+          c.if-w-eq0.branch-raw),
     )
 
-returns_2 : tie.Need-returns-2 invariant_loop decreases_loop
-returns_2 c = sym (c.before.before.loop.invariant.2 ∙ at_cut _ _ _ _ c.before.loop_test.false c.if4.true)
+returns_2 : tie.Need-returns-then-open invariant_loop decreases_loop
+returns_2 c = sym (c.loop-i.invariant.2 ∙ at_cut (reader _ _) _ _ _ c.loop-i-test.false c.if-open.true)
 
-returns_3 : tie.Need-returns-3 invariant_loop decreases_loop
-returns_3 c = sym (c.before.before.loop.invariant.2 ∙ at_end _ _ _ _ c.before.loop_test.false c.if4.false)
+returns_3 : tie.Need-returns invariant_loop decreases_loop
+returns_3 c = sym (c.loop-i.invariant.2 ∙ at_end (reader _ _) _ _ _ c.loop-i-test.false c.if-open.false)
 
 pub count_steps_spec : {M : Type 1} → statement M
 count_steps_spec =

@@ -29,7 +29,7 @@ module _ (n at : ℕ) (o : List ℕ) (fits : at + length (decimal n) ≤ length 
 
 -- ════════ The needs ════════
 
-abbrev invariant_loop : tie.invariant_loop
+abbrev invariant_loop : tie.invariant-loop-rest
 invariant_loop n at end out₀ i₀ rest₀ out i rest =
     (rest ≤ n)
     × (i ≡ at + length (decimal rest))
@@ -37,60 +37,60 @@ invariant_loop n at end out₀ i₀ rest₀ out i rest =
     × (length out ≡ length out₀)
     × (placed (decimal rest) at out ≡ placed (decimal n) at out₀)
 
-abbrev decreases_loop : tie.decreases_loop
+abbrev decreases_loop : tie.decreases-loop-rest
 decreases_loop n at end out₀ i₀ rest₀ out i rest = rest
 
 -- The point: a turn of the loop begins.
-abbrev start : tie.At-loop invariant_loop decreases_loop → tie.Start invariant_loop decreases_loop
+abbrev start : tie.At-loop-rest invariant_loop decreases_loop → tie.Start invariant_loop decreases_loop
 start c = c.before
 
-loop_holds : tie.Need-loop-init invariant_loop decreases_loop
+loop_holds : tie.Need-loop-rest-init invariant_loop decreases_loop
 loop_holds c = (omega arith, omega arith, omega arith, refl, refl)
 
-sub_i : tie.Need-overflow-sub-i invariant_loop decreases_loop
-sub_i c = omega (arith, length_more _ c.loop_test.true)
+sub_i : tie.Need-overflow_sub-i invariant_loop decreases_loop
+sub_i c = omega (arith, length_more _ c.loop-rest-test.true)
 
-cast_out : tie.Need-overflow-cast-out invariant_loop decreases_loop
+cast_out : tie.Need-overflow_cast-out invariant_loop decreases_loop
 cast_out c = omega arith
 
-add_out : tie.Need-overflow-add-out invariant_loop decreases_loop
+add_out : tie.Need-overflow_add-out invariant_loop decreases_loop
 add_out c = omega arith
 
-slice_write_out : tie.Need-slice-write-out invariant_loop decreases_loop
-slice_write_out c = omega (arith, length_more _ c.loop_test.true)
+slice_write_out : tie.Need-bounds-out-i invariant_loop decreases_loop
+slice_write_out c = omega (arith, length_more _ c.loop-rest-test.true)
 
-loop_less : tie.Need-loop-smaller invariant_loop decreases_loop
+loop_less : tie.Need-loop-rest-smaller invariant_loop decreases_loop
 loop_less c = omega arith
 
-loop_again : tie.Need-loop-preserved invariant_loop decreases_loop
+loop_again : tie.Need-loop-rest-preserved invariant_loop decreases_loop
 loop_again c =
-    let now = c.before.loop in
+    let now = c.before.loop-rest in
     let args = (start c.before).args in
-    let shorter = length_more now.rest c.loop_test.true in (
+    let shorter = length_more now.rest c.loop-rest-test.true in (
       omega arith,
       omega (arith, shorter),
       omega (arith, shorter),
       simp length-set now.invariant.3,
-      rw now.invariant.1 (last_digit_placed now.rest args.at now.out (omega arith) c.loop_test.true) ∙ now.invariant.4,
+      rw now.invariant.1 (last_digit_placed now.rest args.at now.out (omega arith) c.loop-rest-test.true) ∙ now.invariant.4,
     )
 
-cast_out_2 : tie.Need-overflow-cast-out-2 invariant_loop decreases_loop
+cast_out_2 : tie.Need-overflow_cast-out-2 invariant_loop decreases_loop
 cast_out_2 c = omega arith
 
-add_out_2 : tie.Need-overflow-add-out-2 invariant_loop decreases_loop
+add_out_2 : tie.Need-overflow_add-out-2 invariant_loop decreases_loop
 add_out_2 c = omega arith
 
-slice_write_out_2 : tie.Need-slice-write-out-2 invariant_loop decreases_loop
-slice_write_out_2 c = omega (arith, length_one _ c.loop_test.false)
+slice_write_out_2 : tie.Need-bounds-out-at invariant_loop decreases_loop
+slice_write_out_2 c = omega (arith, length_one _ c.loop-rest-test.false)
 
-same_length : tie.Need-same-length invariant_loop decreases_loop
-same_length c = simp length-set c.before.loop.invariant.3
+same_length : tie.Need-shape_of-out invariant_loop decreases_loop
+same_length c = simp length-set c.before.loop-rest.invariant.3
 
 returns : tie.Need-returns invariant_loop decreases_loop
 returns c =
-    let now = c.before.loop in
+    let now = c.before.loop-rest in
     let args = (start c.before).args in
-    first_digit_placed now.rest args.at now.out (omega arith) c.loop_test.false ∙ now.invariant.4
+    first_digit_placed now.rest args.at now.out (omega arith) c.loop-rest-test.false ∙ now.invariant.4
 
 pub fill_digits_spec : {M : Type 1} → statement M
 fill_digits_spec =

@@ -9,72 +9,72 @@ use Rattle.text.proofs.Buffers.{Put, put_none, put_next, fits_by, puts_there, pu
 use Rattle.text.proofs.put.put_bytes.Statement.{statement}
 use Rattle.text.proofs.put.put_bytes.Tie as tie
 
-abbrev invariant_loop : tie.invariant_loop
+abbrev invariant_loop : tie.invariant-loop-i
 invariant_loop text at out₀ next i₀ out i =
     (i ≤ length text) × (length out ≡ length out₀) × Put (take i text) at out₀ (at + i) out
 
-abbrev decreases_loop : tie.decreases_loop
+abbrev decreases_loop : tie.decreases-loop-i
 decreases_loop text at out₀ next i₀ out i = length text - i
 
 -- The points: the text fits; a turn of the loop begins.
-abbrev start : tie.Then1 invariant_loop decreases_loop → tie.Start invariant_loop decreases_loop
+abbrev start : tie.Then-next-out invariant_loop decreases_loop → tie.Start invariant_loop decreases_loop
 start c = c.before.before.before.before
 
-abbrev turn : tie.After-shared-slice-known2 invariant_loop decreases_loop → tie.At-loop invariant_loop decreases_loop
+abbrev turn : tie.After-shared_slice_known-in-loop-i-1 invariant_loop decreases_loop → tie.At-loop-i invariant_loop decreases_loop
 turn c = c.before.before
 
-small : (c : tie.Then1 invariant_loop decreases_loop) → length (start c).args.out.now * 1 < 2 ^ 63
-small c = (start c).well-formed.1.1.0.1
+small : (c : tie.Then-next-out invariant_loop decreases_loop) → length (start c).args.out.now * 1 < 2 ^ 63
+small c = (start c).well_formed.1.1.0.1
 
-fits : (c : tie.Then1 invariant_loop decreases_loop) → (start c).args.at + length (start c).args.text.now ≤ length (start c).args.out.now
-fits c = fits_by (start c).args.text.now (start c).args.at (start c).args.out.now c.before.sum.ensures (small c) (omega arith)
+fits : (c : tie.Then-next-out invariant_loop decreases_loop) → (start c).args.at + length (start c).args.text.now ≤ length (start c).args.out.now
+fits c = fits_by (start c).args.text.now (start c).args.at (start c).args.out.now c.before.sum-next.ensures (small c) (omega arith)
 
-sum_requires : tie.Need-sum-requires invariant_loop decreases_loop
+sum_requires : tie.Need-sum-next-requires invariant_loop decreases_loop
 sum_requires c κs = tt
 
-loop_holds : tie.Need-loop-init invariant_loop decreases_loop
+loop_holds : tie.Need-loop-i-init invariant_loop decreases_loop
 loop_holds c = (omega arith, refl, rw add-zero (put_none _ _))
 
-shared_slice_read_out : tie.Need-shared-slice-read-out invariant_loop decreases_loop
+shared_slice_read_out : tie.Need-bounds-text-i invariant_loop decreases_loop
 shared_slice_read_out c = omega arith
 
-add_out : tie.Need-overflow-add-out invariant_loop decreases_loop
+add_out : tie.Need-overflow_add-out invariant_loop decreases_loop
 add_out c = omega (arith, fits (turn c).before, small (turn c).before)
 
-slice_write_out : tie.Need-slice-write-out invariant_loop decreases_loop
+slice_write_out : tie.Need-bounds-out-at invariant_loop decreases_loop
 slice_write_out c = omega (arith, fits (turn c).before)
 
-add_i : tie.Need-overflow-add-i invariant_loop decreases_loop
+add_i : tie.Need-overflow_add-i invariant_loop decreases_loop
 add_i c = omega arith
 
-loop_less : tie.Need-loop-smaller invariant_loop decreases_loop
+loop_less : tie.Need-loop-i-smaller invariant_loop decreases_loop
 loop_less c = omega arith
 
-loop_again : tie.Need-loop-preserved invariant_loop decreases_loop
+loop_again : tie.Need-loop-i-preserved invariant_loop decreases_loop
 loop_again c =
-    let now = (turn c).loop in
+    let now = (turn c).loop-i in
     let args = (start (turn c).before).args in (
       omega arith,
-      simp length-set now.inv.1,
-      put_next args.text.now args.at now.i c.before.loop_test.true (fits (turn c).before) now.inv.2,
+      simp length-set now.invariant.1,
+      put_next args.text.now args.at now.i c.before.loop-i-test.true (fits (turn c).before) now.invariant.2,
     )
 
-same_length : tie.Need-same-length invariant_loop decreases_loop
-same_length c = c.before.loop.invariant.1
+same_length : tie.Need-shape_of-out invariant_loop decreases_loop
+same_length c = c.before.loop-i.invariant.1
 
-returns : tie.Need-returns invariant_loop decreases_loop
+returns : tie.Need-returns-after-loop-i invariant_loop decreases_loop
 returns c =
     let fitting = c.before.before in
     let args = (start fitting).args in
     let text = args.text.now in
-    let ended : c.before.loop.i ≡ length text = omega arith in
-    let all : take c.before.loop.i text ≡ text = rw (ended, take-length) in
-    puts_there text args.at args.out.now fitting.before.sum.ensures (fits fitting) (rw all at c.before.loop.invariant.2).held
+    let ended : c.before.loop-i.i ≡ length text = omega arith in
+    let all : take c.before.loop-i.i text ≡ text = rw (ended, take-length) in
+    puts_there text args.at args.out.now fitting.before.sum-next.ensures (fits fitting) (rw all at c.before.loop-i.invariant.2).held
 
-returns_2 : tie.Need-returns-2 invariant_loop decreases_loop
+returns_2 : tie.Need-returns-else-next-out invariant_loop decreases_loop
 returns_2 c =
     let args = c.before.before.before.before.args in
-    puts_nothing args.text.now args.at args.out.now c.before.sum.ensures (omega arith)
+    puts_nothing args.text.now args.at args.out.now c.before.sum-next.ensures (omega arith)
 
 pub put_bytes_spec : {M : Type 1} → statement M
 put_bytes_spec =

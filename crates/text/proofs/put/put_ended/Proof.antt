@@ -30,56 +30,56 @@ module _ (t : List ℕ) (b at : ℕ) (o : List ℕ) {n : ℕ} where
 -- ════════ The needs ════════
 
 -- The point: the place after the digits is known.
-abbrev start : tie.After-sum → tie.Start
+abbrev start : tie.After-sum-end → tie.Start
 start c = c.before.before.before
 
-abbrev digits_of : tie.After-sum → List ℕ
+abbrev digits_of : tie.After-sum-end → List ℕ
 digits_of c = decimal (start c).args.n
 
 digits_requires : tie.Need-digits-requires
 digits_requires c κs = search rules
 
-sum_requires : tie.Need-sum-requires
+sum_requires : tie.Need-sum-end-requires
 sum_requires c κs = search rules
 
-end_is : (c : tie.After-sum) → c.sum.result ≡ min ((start c).args.at + length (digits_of c)) largest_size
-end_is c = c.sum.ensures ∙ ap (λ k. min ((start c).args.at + k) largest_size) c.before.digits.ensures
+end_is : (c : tie.After-sum-end) → c.sum-end.result ≡ min ((start c).args.at + length (digits_of c)) largest_size
+end_is c = c.sum-end.ensures ∙ ap (λ k. min ((start c).args.at + k) largest_size) c.before.digits.ensures
 
-small : (c : tie.After-sum) → length (start c).args.out.now * 1 < 2 ^ 63
-small c = (start c).well-formed.1.1.1.0.1
+small : (c : tie.After-sum-end) → length (start c).args.out.now * 1 < 2 ^ 63
+small c = (start c).well_formed.1.1.1.0.1
 
 -- Where the text fits.
-exactly : (c : tie.Then1) → let s = start c.before in c.before.sum.result ≡ s.args.at + length (digits_of c.before)
+exactly : (c : tie.Then-end-out) → let s = start c.before in c.before.sum-end.result ≡ s.args.at + length (digits_of c.before)
 exactly c =
     let args = (start c.before).args in
     exact (digits_of c.before) args.at args.out.now (end_is c.before) (small c.before) (omega arith)
 
-fill_digits_requires : tie.Need-fill-digits-requires
+fill_digits_requires : tie.Need-fill_digits-requires
 fill_digits_requires c κs = (exactly c.before, omega arith)
 
-slice_write_out : tie.Need-slice-write-out
+slice_write_out : tie.Need-bounds-out-end
 slice_write_out c = search rules
 
-add_result : tie.Need-overflow-add-result
+add_result : tie.Need-overflow_add-result
 add_result c = search rules
 
-same_length : tie.Need-same-length
+same_length : tie.Need-shape_of-out-then-end-out
 same_length c = search rules
 
-returns : tie.Need-returns
+returns : tie.Need-returns-then-end-out
 returns c =
     let fitting = c.before.before.before.before in
     let args = (start fitting.before).args in
-    puts_ended (decimal args.n) args.byte args.at args.out.now (exactly fitting) (omega arith) (small fitting.before) c.before.before.fill-digits.ensures
+    puts_ended (decimal args.n) args.byte args.at args.out.now (exactly fitting) (omega arith) (small fitting.before) c.before.before.fill_digits.ensures
 
-sum_requires_2 : tie.Need-sum-requires-2
+sum_requires_2 : tie.Need-sum-requires
 sum_requires_2 c κs = search rules
 
-returns_2 : tie.Need-returns-2
+returns_2 : tie.Need-returns
 returns_2 c =
     let placed = c.before.before in
     let args = (start placed).args in
-    puts_no_end (decimal args.n) args.byte args.at args.out.now (end_is placed) (omega arith) c.sum2.ensures
+    puts_no_end (decimal args.n) args.byte args.at args.out.now (end_is placed) (omega arith) c.sum.ensures
 
 pub put_ended_spec : {M : Type 1} → statement M
 put_ended_spec =

@@ -45,38 +45,38 @@ longer_one s b r f e =
 
 -- ════════ The code ════════
 
-abbrev told : (c : tie.Then1) → Few c.before.args.state c.before.args.byte
-told c = few c.before.args.state c.before.args.byte c.if1.true
+abbrev told : (c : tie.Then-byte-state) → Few c.before.args.state c.before.args.byte
+told c = few c.before.args.state c.before.args.byte c.if-byte-state.true
 
-sub_result : tie.Need-overflow-sub-result
+sub_result : tie.Need-overflow_sub-result
 sub_result c = omega (arith, (told c).above)
 
-mul_result : tie.Need-overflow-mul-result
+mul_result : tie.Need-overflow_mul-result
 mul_result c = omega (arith, (told c).above, (told c).below)
 
 wide_requires : tie.Need-wide-requires
 wide_requires c κs = search rules
 
-sub_result_2 : tie.Need-overflow-sub-result-2
+sub_result_2 : tie.Need-overflow_sub-result-then-byte-state
 sub_result_2 c = omega (arith, (told c.before).low, c.wide.ensures)
 
-add_result : tie.Need-overflow-add-result
+add_result : tie.Need-overflow_add-result
 add_result c = omega (arith, (told c.before).above, (told c.before).below, (told c.before).high, c.wide.ensures)
 
-add_result_2 : tie.Need-overflow-add-result-2
+add_result_2 : tie.Need-overflow_add-result-then-byte-state
 add_result_2 c = omega (arith, (told c.before).above, (told c.before).below, (told c.before).high, c.wide.ensures)
 
-returns : tie.Need-returns
+returns : tie.Need-returns-then-byte-state
 returns c =
     let s = c.before.before.args.state in
     let b = c.before.before.args.byte in
     let w : c.wide.result ≡ b = c.wide.ensures in
     longer_one s b _ (told c.before) (omega arith)
 
-tested_after_requires : tie.Need-tested-after-requires
+tested_after_requires : tie.Need-tested_after-requires
 tested_after_requires c κs = search rules
 
-returns_2 : tie.Need-returns-2
+returns_2 : tie.Need-returns
 returns_2 c = search rules
 
 pub state_after_spec : {M : Type 1} → statement M

@@ -62,70 +62,70 @@ too_large s b h = sym (after_other s b (λ g. omega arith))
 
 -- ════════ The code ════════
 
-returns : tie.Need-returns
+returns : tie.Need-returns-then-byte-state
 unfolding largest_number
-returns c = stopped _ c.before.args.state c.before.args.byte (λ g q. g.not_zero (omega arith)) c.if1.true
+returns c = stopped _ c.before.args.state c.before.args.byte (λ g q. g.not_zero (omega arith)) c.if-byte-state.true
 
-wide_requires : tie.Need-wide-requires
+wide_requires : tie.Need-wide-digit-requires
 wide_requires c κs = search rules
 
-sub_digit : tie.Need-overflow-sub-digit
+sub_digit : tie.Need-overflow_sub-digit
 unfolding largest_number
 sub_digit c =
-    let p = passed _ c.before.before.args.state c.before.before.args.byte c.before.if1.false in
-    omega (arith, p.low, c.wide.ensures)
+    let p = passed _ c.before.before.args.state c.before.before.args.byte c.before.if-byte-state.false in
+    omega (arith, p.low, c.wide-digit.ensures)
 
-add_result : tie.Need-overflow-add-result
+add_result : tie.Need-overflow_add-result
 add_result c = search rules
 
-returns_2 : tie.Need-returns-2
+returns_2 : tie.Need-returns-then-state-eq-NO_BYTE
 unfolding largest_number
 returns_2 c =
     let s = c.before.before.before.args.state in
     let b = c.before.before.before.args.byte in
-    let p = passed _ s b c.before.before.if1.false in
-    let none : s ≡ 0 = c.if2.true in
-    let w : c.before.wide.result ≡ b = c.before.wide.ensures in
+    let p = passed _ s b c.before.before.if-byte-state.false in
+    let none : s ≡ 0 = c.if-state-eq-NO_BYTE.true in
+    let w : c.before.wide-digit.result ≡ b = c.before.wide-digit.ensures in
     longer_one s b _ p (λ q. omega arith) (omega (arith, p.high)) (omega arith)
 
-sub_n : tie.Need-overflow-sub-n
+sub_n : tie.Need-overflow_sub-n
 sub_n c = search rules
 
-mul_n : tie.Need-overflow-mul-n
+mul_n : tie.Need-overflow_mul-n
 unfolding largest_number
 mul_n c =
     let s = c.before.before.before.args.state in
     let b = c.before.before.before.args.byte in
-    let p = passed _ s b c.before.before.if1.false in
+    let p = passed _ s b c.before.before.if-byte-state.false in
     omega (arith, p.below)
 
-add_n : tie.Need-overflow-add-n
+add_n : tie.Need-overflow_add-n
 unfolding largest_number
 add_n c =
     let s = c.before.before.before.args.state in
     let b = c.before.before.before.args.byte in
-    let p = passed _ s b c.before.before.if1.false in
-    omega (arith, p.below, p.high, c.before.wide.ensures)
+    let p = passed _ s b c.before.before.if-byte-state.false in
+    omega (arith, p.below, p.high, c.before.wide-digit.ensures)
 
-returns_3 : tie.Need-returns-3
+returns_3 : tie.Need-returns-then-n-gt-LARGEST_NUMBER
 unfolding largest_number
 returns_3 c =
     too_large
     c.before.before.before.before.args.state
     c.before.before.before.before.args.byte
-    (omega (arith, c.if3.true, c.before.before.wide.ensures))
+    (omega (arith, c.if-n-gt-LARGEST_NUMBER.true, c.before.before.wide-digit.ensures))
 
-add_result_2 : tie.Need-overflow-add-result-2
+add_result_2 : tie.Need-overflow_add-result-2
 add_result_2 c = search rules
 
-returns_4 : tie.Need-returns-4
+returns_4 : tie.Need-returns
 unfolding largest_number
 returns_4 c =
     let s = c.before.before.before.before.args.state in
     let b = c.before.before.before.before.args.byte in
-    let p = passed _ s b c.before.before.before.if1.false in
-    let w : c.before.before.wide.result ≡ b = c.before.before.wide.ensures in
-    longer_one s b _ p (λ q. p.other (omega arith)) (omega (arith, c.if3.false)) (omega arith)
+    let p = passed _ s b c.before.before.before.if-byte-state.false in
+    let w : c.before.before.wide-digit.result ≡ b = c.before.before.wide-digit.ensures in
+    longer_one s b _ p (λ q. p.other (omega arith)) (omega (arith, c.if-n-gt-LARGEST_NUMBER.false)) (omega arith)
 
 pub tested_after_spec : {M : Type 1} → statement M
 tested_after_spec =

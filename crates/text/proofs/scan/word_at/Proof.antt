@@ -58,65 +58,65 @@ module _ (text : List ℕ) (at : ℕ) where
 
 -- ════════ The loop ════════
 
-abbrev invariant_loop : tie.invariant_loop
+abbrev invariant_loop : tie.invariant-loop-end
 invariant_loop text at state₀ end₀ state end = ReadTo text at state end
 
-abbrev decreases_loop : tie.decreases_loop
+abbrev decreases_loop : tie.decreases-loop-end
 decreases_loop text at state₀ end₀ state end = length text - end
 
 -- ════════ The points ════════
 
-abbrev start : tie.At-loop invariant_loop decreases_loop → tie.Start invariant_loop decreases_loop
+abbrev start : tie.At-loop-end invariant_loop decreases_loop → tie.Start invariant_loop decreases_loop
 start c = c.before.before
 
 -- A turn, by where it is known whether its byte parts words.
-abbrev turn : tie.After-is-parting invariant_loop decreases_loop → tie.At-loop invariant_loop decreases_loop
+abbrev turn : tie.After-is_parting invariant_loop decreases_loop → tie.At-loop-end invariant_loop decreases_loop
 turn c = c.before.before.before
 
-below : (c : tie.After-is-parting invariant_loop decreases_loop) → (turn c).loop.end < length (start (turn c)).args.text.now
-below c = c.before.before.loop_test.true
+below : (c : tie.After-is_parting invariant_loop decreases_loop) → (turn c).loop-end.end < length (start (turn c)).args.text.now
+below c = c.before.before.loop-end-test.true
 
 -- ════════ The needs ════════
 
-loop_holds : tie.Need-loop-init invariant_loop decreases_loop
+loop_holds : tie.Need-loop-end-init invariant_loop decreases_loop
 loop_holds c = read_none _ _
 
-shared_slice_read_byte : tie.Need-shared-slice-read-byte invariant_loop decreases_loop
+shared_slice_read_byte : tie.Need-bounds-text-end invariant_loop decreases_loop
 shared_slice_read_byte c = search rules
 
-is_parting_requires : tie.Need-is-parting-requires invariant_loop decreases_loop
+is_parting_requires : tie.Need-is_parting-requires invariant_loop decreases_loop
 is_parting_requires c κs = search rules
 
-returns : tie.Need-returns invariant_loop decreases_loop
+returns : tie.Need-returns-then-is_parting invariant_loop decreases_loop
 returns c =
     let parting = c.before in
     let t = turn parting in
     let text = (start t).args.text.now in
     let at = (start t).args.at in
-    read_all text at t.loop.inv (no_word_from text at t.loop.end (below parting) (sym parting.is-parting.ensures ∙ c.if1.true))
+    read_all text at t.loop-end.invariant (no_word_from text at t.loop-end.end (below parting) (sym parting.is_parting.ensures ∙ c.if-is_parting.true))
 
-state_after_requires : tie.Need-state-after-requires invariant_loop decreases_loop
+state_after_requires : tie.Need-state_after-state-requires invariant_loop decreases_loop
 state_after_requires c κs = search rules
 
-add_end : tie.Need-overflow-add-end invariant_loop decreases_loop
+add_end : tie.Need-overflow_add-end invariant_loop decreases_loop
 add_end c = search rules
 
-loop_less : tie.Need-loop-smaller invariant_loop decreases_loop
+loop_less : tie.Need-loop-end-smaller invariant_loop decreases_loop
 loop_less c = search rules
 
-loop_again : tie.Need-loop-preserved invariant_loop decreases_loop
+loop_again : tie.Need-loop-end-preserved invariant_loop decreases_loop
 loop_again c =
     let parting = c.before.before in
     let t = turn parting in
-    read_more (start t).args.text.now (start t).args.at t.loop.inv (below parting)
-    (sym parting.is-parting.ensures ∙ c.before.if1.false)
-    c.state_after.ensures
+    read_more (start t).args.text.now (start t).args.at t.loop-end.invariant (below parting)
+    (sym parting.is_parting.ensures ∙ c.before.if-is_parting.false)
+    c.state_after-state.ensures
 
-returns_2 : tie.Need-returns-2 invariant_loop decreases_loop
+returns_2 : tie.Need-returns invariant_loop decreases_loop
 returns_2 c =
     let t = c.before in
     let text = (start t).args.text.now in
-    read_all text (start t).args.at t.loop.invariant (rw (drop_of_length-le text c.loop_test.false))
+    read_all text (start t).args.at t.loop-end.invariant (rw (drop_of_length-le text c.loop-end-test.false))
 
 pub word_at_spec : {M : Type 1} → statement M
 word_at_spec =
