@@ -155,4 +155,4 @@ module _ {a : Assignment} where
   -- Where the literal is true, one of the others is.
   pub some_where_is : {B : Type 0} {x : ℤ} {c : Bool} (f : B → ℤ) (bs : List B) → Reads a x c
       → Satisfies a ((negated x ∷ map f bs) ∷ []) ↔ (c ≡ true → some_of (λ b. literal_true a (f b)) bs ≡ true)
-  some_where_is {c} f bs rx = rw (rx.negation, some_of_map, and-true) (true_where c _)
+  some_where_is {c} f bs rx = rw (rx.negation, some_of_map (literal_true a) f bs, and-true) (true_where c _)

@@ -8,58 +8,58 @@ use Rattle.problem.proofs.Answered.{PassedTo, passed_none, passed_more, passed_a
 use Rattle.aiger.proofs.check.all.Statement.{statement}
 use Rattle.aiger.proofs.check.all.Tie as tie
 
-abbrev invariant_loop : tie.invariant_loop
+abbrev invariant_loop : tie.invariant-loop-i
 invariant_loop words s kind n i₀ i = PassedTo (checks_of kind (sizes_of s) words) (count_of kind (sizes_of s)) i
 
-abbrev decreases_loop : tie.decreases_loop
+abbrev decreases_loop : tie.decreases-loop-i
 decreases_loop words s kind n i₀ i = n - i
 
 -- ════════ The points, and what is known there ════════
 
-abbrev start : tie.At-loop invariant_loop decreases_loop → tie.Start invariant_loop decreases_loop
+abbrev start : tie.At-loop-i invariant_loop decreases_loop → tie.Start invariant_loop decreases_loop
 start c = c.before.before.before
 
 -- The turn's number is one of the kind's.
-below : (c : tie.In-loop invariant_loop decreases_loop) → c.before.loop.i < count_of (start c.before).args.kind (sizes_of (start c.before).args.s)
-below c = rw c.before.before.count.ensures at c.loop_test.true
+below : (c : tie.In-loop-i invariant_loop decreases_loop) → c.loop-i.i < count_of (start c.before).args.kind (sizes_of (start c.before).args.s)
+below c = rw c.count-n.ensures at c.loop-i-test.true
 
 -- ════════ The needs ════════
 
-count_requires : tie.Need-count-requires invariant_loop decreases_loop
+count_requires : tie.Need-count-n-requires invariant_loop decreases_loop
 count_requires c κs = search rules
 
-loop_holds : tie.Need-loop-init invariant_loop decreases_loop
+loop_holds : tie.Need-loop-i-init invariant_loop decreases_loop
 loop_holds c = passed_none
 
-one_requires : tie.Need-one-requires invariant_loop decreases_loop
-one_requires c κs = ((start c.before).pre, below c)
+one_requires : tie.Need-one-r-requires invariant_loop decreases_loop
+one_requires c κs = ((start c.before).requires, below c)
 
-enum_told : tie.Need-enum-told invariant_loop decreases_loop
-enum_told c = c.match.keys1
+enum_told : tie.Need-enum_told-1 invariant_loop decreases_loop
+enum_told c = c.in-Passed-1.keys1
 
-enum_told_2 : tie.Need-enum-told-2 invariant_loop decreases_loop
-enum_told_2 c = c.match.keys2
+enum_told_2 : tie.Need-enum_told-in_default invariant_loop decreases_loop
+enum_told_2 c = c.in_default-1.keys2
 
-returns : tie.Need-returns invariant_loop decreases_loop
+returns : tie.Need-returns-in_default invariant_loop decreases_loop
 returns c =
-    let done = c.before.before in
+    let done = c.before in
     let turn = done.before in
-    refused_at turn.before.loop.invariant (below turn) done.one.result c.before.match.keys2 done.one.ensures
+    refused_at turn.loop-i.invariant (below turn) done.one-r.result c.in_default.in_default-own.keys2 done.one-r.ensures
 
-add_i : tie.Need-overflow-add-i invariant_loop decreases_loop
+add_i : tie.Need-overflow_add-i invariant_loop decreases_loop
 add_i c = search rules
 
-loop_less : tie.Need-loop-smaller invariant_loop decreases_loop
+loop_less : tie.Need-loop-i-smaller invariant_loop decreases_loop
 loop_less c = omega arith
 
-loop_again : tie.Need-loop-preserved invariant_loop decreases_loop
+loop_again : tie.Need-loop-i-preserved invariant_loop decreases_loop
 loop_again c =
-    let done = c.before.before in
+    let done = c.before in
     let turn = done.before in
-    passed_more turn.before.loop.invariant (below turn) (answers_by (is_passed done.one.result c.before.match.keys1) done.one.ensures)
+    passed_more turn.loop-i.invariant (below turn) (answers_by (is_passed done.one-r.result c.in-Passed.in-Passed-own.keys1) done.one-r.ensures)
 
-returns_2 : tie.Need-returns-2 invariant_loop decreases_loop
-returns_2 c = passed_all c.before.loop.invariant (rw c.before.before.count.ensures at c.loop_test.false)
+returns_2 : tie.Need-returns invariant_loop decreases_loop
+returns_2 c = passed_all c.loop-i.invariant (rw c.count-n.ensures at c.loop-i-test.false)
 
 pub all_spec : {M : Type 1} → statement M
 all_spec =

@@ -15,20 +15,20 @@ use Rattle.aiger.proofs.check.check.Tie as tie
 
 -- ════════ The points, and what is known there ════════
 
-abbrev words : tie.After-then → List ℕ
-words c = c.before.before.before.before.args.words.now
+abbrev words : tie.After-then-opening → List ℕ
+words c = c.args.words.now
 
-abbrev opening : tie.After-then → List (List Check)
+abbrev opening : tie.After-then-opening → List (List Check)
 opening c = header_checks (words c) ∷ limit_checks (words c) ∷ []
 
-abbrev after : tie.After-then → List (List Check)
+abbrev after : tie.After-then-opening → List (List Check)
 after c = sized_parts (sizes (words c)) (words c)
 
-opened : (c : tie.After-then) → Answers (opening c) c.then.result
-opened c = c.then.ensures.answers _ _ c.before.before.header.ensures c.before.limits.ensures
+opened : (c : tie.After-then-opening) → Answers (opening c) c.then-opening.result
+opened c = c.then-opening.ensures.answers _ _ c.header.ensures c.limits.ensures
 
-passed : (c : tie.After-enum-told) → Answers (opening c.before.before) Passed
-passed c = answers_by (is_passed c.before.before.then.result c.before.match.keys1) (opened c.before.before)
+passed : (c : tie.In-Passed) → Answers (opening c.before) Passed
+passed c = answers_by (is_passed c.then-opening.result c.in-Passed.in-Passed-own.keys1) (opened c.before)
 
 -- ════════ The needs ════════
 
@@ -38,32 +38,32 @@ header_requires c κs = search rules
 limits_requires : tie.Need-limits-requires
 limits_requires c κs = search rules
 
-then_requires : tie.Need-then-requires
+then_requires : tie.Need-then-opening-requires
 then_requires c κs = search rules
 
-enum_told : tie.Need-enum-told
+enum_told : tie.Need-enum_told-1
 enum_told c = search rules
 
 sizes_requires : tie.Need-sizes-requires
 sizes_requires c κs = search rules
 
 sized_requires : tie.Need-sized-requires
-sized_requires c κs = subst Fitting (sym c.sizes.ensures) (fitting_if_passed (words c.before.before.before) (passed c.before))
+sized_requires c κs = subst Fitting (sym c.sizes.ensures) (fitting_if_passed (words c.before.before) (passed c.before))
 
-enum_known_opening : tie.Need-enum-known-opening
+enum_known_opening : tie.Need-enum_known-opening
 enum_known_opening c = search rules
 
-returns : tie.Need-returns
+returns : tie.Need-returns-in-Passed
 returns c =
     let sized = c.before in
-    let point = sized.before.before.before in
+    let point = sized.before.before in
     passed_first (opening point) (after point) (passed sized.before)
     (subst (λ s. Answers (sized_parts s (words point)) c.sized.result) sized.sizes.ensures c.sized.ensures)
 
-returns_2 : tie.Need-returns-2
+returns_2 : tie.Need-returns-in-Refused
 returns_2 c =
-    let point = c.before.before.before in
-    refused_first (opening point) (after point) (answers_by c.before.opening.given.1 (opened point))
+    let point = c.before in
+    refused_first (opening point) (after point) (answers_by c.in-Refused.is (opened point))
 
 pub check_spec : {M : Type 1} → statement M
 check_spec =

@@ -28,22 +28,22 @@ built : (s : Sizes) {width : ℕ} → width ≡ s.inputs + s.latches + s.gates
     ≡ circuit s
 built s e = rw e
 
-cast_latches_from : tie.Need-overflow-cast-latches-from
+cast_latches_from : tie.Need-overflow_cast-latches_from
 cast_latches_from c = search rules
 
-mul_gates_from : tie.Need-overflow-mul-gates-from
+mul_gates_from : tie.Need-overflow_mul-gates_from
 unfolding latches_limit
 mul_gates_from c = omega arith
 
-add_gates_from : tie.Need-overflow-add-gates-from
+add_gates_from : tie.Need-overflow_add-gates_from
 unfolding latches_limit
 add_gates_from c = omega arith
 
-mul_outputs_from : tie.Need-overflow-mul-outputs-from
+mul_outputs_from : tie.Need-overflow_mul-outputs_from
 unfolding gates_limit
 mul_outputs_from c = omega arith
 
-add_outputs_from : tie.Need-overflow-add-outputs-from
+add_outputs_from : tie.Need-overflow_add-outputs_from
 unfolding latches_limit gates_limit
 add_outputs_from c = omega arith
 
@@ -51,7 +51,7 @@ width_requires : tie.Need-width-requires
 width_requires c κs = search rules
 
 returns : tie.Need-returns
-returns c = built (sizes_of c.before.before.before.args.s) c.width.ensures
+returns c = built (sizes_of c.args.s) c.width.ensures
 
 pub circuit_spec : {M : Type 1} → statement M
 circuit_spec =

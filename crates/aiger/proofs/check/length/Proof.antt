@@ -6,14 +6,14 @@ use Rattle.problem.proofs.Answered.{pass, fail, all_pass}
 use Rattle.aiger.proofs.check.length.Statement.{statement}
 use Rattle.aiger.proofs.check.length.Tie as tie
 
-words_in_all_requires : tie.Need-words-in-all-requires
+words_in_all_requires : tie.Need-words_in_all-requires
 words_in_all_requires c κs = search rules
 
-returns : tie.Need-returns
-returns c = fail (ne_eqb _ _ (λ e. c.if1.true (e ∙ sym c.before.words_in_all.ensures))) refl
+returns : tie.Need-returns-then-words-words_in_all
+returns c = fail (ne_eqb _ _ (λ e. c.if-words-words_in_all.true (e ∙ sym c.words_in_all.ensures))) refl
 
-returns_2 : tie.Need-returns-2
-returns_2 c = pass (eq-eqb _ _ (c.if1.false ∙ c.before.words_in_all.ensures)) all_pass
+returns_2 : tie.Need-returns
+returns_2 c = pass (eq-eqb _ _ (c.if-words-words_in_all.false ∙ c.words_in_all.ensures)) all_pass
 
 pub length_spec : {M : Type 1} → statement M
 length_spec = tie.close (tie.spec words_in_all_requires returns returns_2)

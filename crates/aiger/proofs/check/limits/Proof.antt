@@ -12,19 +12,19 @@ limit_requires c κs = search rules
 limit_requires_2 : tie.Need-limit-requires-2
 limit_requires_2 c κs = search rules
 
-then_requires : tie.Need-then-requires
+then_requires : tie.Need-then-to_latches-requires
 then_requires c κs = search rules
 
 limit_requires_3 : tie.Need-limit-requires-3
 limit_requires_3 c κs = search rules
 
-then_requires_2 : tie.Need-then-requires-2
+then_requires_2 : tie.Need-then-to_gates-requires
 then_requires_2 c κs = search rules
 
 limit_requires_4 : tie.Need-limit-requires-4
 limit_requires_4 c κs = search rules
 
-then_requires_3 : tie.Need-then-requires-3
+then_requires_3 : tie.Need-then-requires
 then_requires_3 c κs = search rules
 
 returns : tie.Need-returns
@@ -34,11 +34,11 @@ returns c =
     let to_latches = to-gates.before.before in
     let first = to_latches.before.before in
     let inputs = first.limit.ensures in
-    let latches = to_latches.before.limit2.ensures in
-    let gates = to-gates.before.limit3.ensures in
-    let outputs = c.before.limit4.ensures in
-    as_one (limit_checks first.before.before.args.words.now)
-    (c.then3.ensures.answers _ _ (to-gates.then2.ensures.answers _ _ (to_latches.then.ensures.answers _ _ inputs latches) gates) outputs)
+    let latches = to_latches.limit-2.ensures in
+    let gates = to-gates.limit-3.ensures in
+    let outputs = c.limit-4.ensures in
+    as_one (limit_checks first.args.words.now)
+    (c.then.ensures.answers _ _ (to-gates.then-to_gates.ensures.answers _ _ (to_latches.then-to_latches.ensures.answers _ _ inputs latches) gates) outputs)
 
 pub limits_spec : {M : Type 1} → statement M
 limits_spec =

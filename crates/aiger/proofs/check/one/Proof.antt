@@ -32,67 +32,67 @@ module _ (s : Sizes) (ws : List ℕ) (i : ℕ) {o : problems.Outline} (e : o ≡
 
 -- ════════ The points ════════
 
-abbrev start : tie.After-circuit → tie.Start
+abbrev start : tie.After-circuit-o → tie.Start
 start c = c.before.before
 
 -- ════════ The needs ════════
 
-circuit_requires : tie.Need-circuit-requires
+circuit_requires : tie.Need-circuit-o-requires
 circuit_requires c κs = search rules
 
-enum_told : tie.Need-enum-told
+enum_told : tie.Need-enum_told-1
 enum_told c = search rules
 
-enum_told_2 : tie.Need-enum-told-2
+enum_told_2 : tie.Need-enum_told-in-Latch
 enum_told_2 c = search rules
 
 latch_requires : tie.Need-latch-requires
 latch_requires c κs = search rules
 
-enum_told_3 : tie.Need-enum-told-3
+enum_told_3 : tie.Need-enum_told-in-Output
 enum_told_3 c = search rules
 
 place_requires : tie.Need-place-requires
 place_requires c κs = search rules
 
-largest_literal_requires : tie.Need-largest-literal-requires
+largest_literal_requires : tie.Need-largest_literal-requires
 largest_literal_requires c κs = search rules
 
 literal_requires : tie.Need-literal-requires
 literal_requires c κs = search rules
 
-enum_told_4 : tie.Need-enum-told-4
+enum_told_4 : tie.Need-enum_told-in-Gate
 enum_told_4 c = search rules
 
 gate_requires : tie.Need-gate-requires
 gate_requires c κs = search rules
 
-returns : tie.Need-returns
-returns c = let told = c.before in rw (is (start told.before).args.kind told.match.keys1) all_pass
+returns : tie.Need-returns-in-Input
+returns c = let told = c in rw (is (start told.before).args.kind told.in-Input.in-Input-own.keys1) all_pass
 
-returns_2 : tie.Need-returns-2
+returns_2 : tie.Need-returns-in-Latch
 returns_2 c =
-    let told = c.before.before in
+    let told = c.before in
     let outlined = told.before in
     let args = (start outlined).args in
-    latch_part (sizes_of args.s) args.words.now args.i outlined.circuit.ensures (is args.kind told.match.keys2) c.latch.ensures
+    latch_part (sizes_of args.s) args.words.now args.i outlined.circuit-o.ensures (is args.kind told.in-Latch.in-Latch-own.keys2) c.latch.ensures
 
-returns_3 : tie.Need-returns-3
+returns_3 : tie.Need-returns-in-Output
 returns_3 c =
     let most = c.before in
     let placed = most.before in
-    let told = placed.before.before in
+    let told = placed.before in
     let outlined = told.before in
     let args = (start outlined).args in
-    output_part (sizes_of args.s) args.words.now args.i outlined.circuit.ensures placed.place.ensures most.largest_literal.ensures
-    (is args.kind told.match.keys3) c.literal.ensures
+    output_part (sizes_of args.s) args.words.now args.i outlined.circuit-o.ensures placed.place.ensures most.largest_literal.ensures
+    (is args.kind told.in-Output.in-Output-own.keys3) c.literal.ensures
 
-returns_4 : tie.Need-returns-4
+returns_4 : tie.Need-returns-in-Gate
 returns_4 c =
-    let told = c.before.before in
+    let told = c.before in
     let outlined = told.before in
     let args = (start outlined).args in
-    gate_part (sizes_of args.s) args.words.now args.i outlined.circuit.ensures (is args.kind told.match.keys4) c.gate.ensures
+    gate_part (sizes_of args.s) args.words.now args.i outlined.circuit-o.ensures (is args.kind told.in-Gate.in-Gate-own.keys4) c.gate.ensures
 
 pub one_spec : {M : Type 1} → statement M
 one_spec =

@@ -13,16 +13,16 @@ built : (ws : List ℕ) {inputs latches gates outputs : ℕ} → inputs ≡ word
     → record { inputs = inputs; latches = latches; gates = gates; outputs = outputs } ≡ sizes ws
 built ws i l g o = rw (i, l, g, o)
 
-word_at_requires : tie.Need-word-at-requires
+word_at_requires : tie.Need-word_at-requires
 word_at_requires c κs = search rules
 
-word_at_requires_2 : tie.Need-word-at-requires-2
+word_at_requires_2 : tie.Need-word_at-requires-2
 word_at_requires_2 c κs = search rules
 
-word_at_requires_3 : tie.Need-word-at-requires-3
+word_at_requires_3 : tie.Need-word_at-requires-3
 word_at_requires_3 c κs = search rules
 
-word_at_requires_4 : tie.Need-word-at-requires-4
+word_at_requires_4 : tie.Need-word_at-requires-4
 word_at_requires_4 c κs = search rules
 
 returns : tie.Need-returns
@@ -30,7 +30,7 @@ returns c =
     let gates = c.before in
     let latches = gates.before in
     let inputs = latches.before in
-    built inputs.before.before.args.words.now inputs.word_at.ensures latches.word-at2.ensures gates.word-at3.ensures c.word-at4.ensures
+    built inputs.args.words.now inputs.word_at.ensures latches.word_at-2.ensures gates.word_at-3.ensures c.word_at-4.ensures
 
 pub sizes_spec : {M : Type 1} → statement M
 sizes_spec =

@@ -7,65 +7,65 @@ use Rattle.aiger.proofs.due.name.Statement.{statement}
 use Rattle.aiger.proofs.due.name.Tie as tie
 
 -- The points: there are three bytes, they are the name, and a fourth stands after it.
-abbrev start : tie.Else1 → tie.Start
+abbrev start : tie.Else-text-lt3 → tie.Start
 start c = c.before.before
 
-abbrev three : tie.After-shared-slice-known4 → tie.Else1
+abbrev three : tie.After-shared_slice_known-4-1 → tie.Else-text-lt3
 three c = c.before.before.before
 
-abbrev named : tie.Else2 → tie.Else1
+abbrev named : tie.Else-text → tie.Else-text-lt3
 named c = three c.before
 
-abbrev fourth : tie.After-is-parting → tie.Then3
+abbrev fourth : tie.After-is_parting → tie.Then-text-gt3
 fourth c = c.before.before
 
-returns : tie.Need-returns
-returns c = (λ table. name_short c.before.before.args.text.now c.if1.true, refl)
+returns : tie.Need-returns-then-text-lt3
+returns c = (λ table. name_short c.args.text.now c.if-text-lt3.true, refl)
 
-shared_slice_read_if2 : tie.Need-shared-slice-read-if2
+shared_slice_read_if2 : tie.Need-bounds-text-0
 shared_slice_read_if2 c = search rules
 
-shared_slice_read_if2_2 : tie.Need-shared-slice-read-if2-2
+shared_slice_read_if2_2 : tie.Need-bounds-text-1
 shared_slice_read_if2_2 c = search rules
 
-shared_slice_read_if2_3 : tie.Need-shared-slice-read-if2-3
+shared_slice_read_if2_3 : tie.Need-bounds-text-2
 shared_slice_read_if2_3 c = search rules
 
-returns_2 : tie.Need-returns-2
-returns_2 c = (λ table. name_other (start (three c.before)).args.text.now c.if2.true, refl)
+returns_2 : tie.Need-returns-then-text
+returns_2 c = (λ table. name_other (start (three c.before)).args.text.now c.if-text.true, refl)
 
-shared_slice_read_is_parting : tie.Need-shared-slice-read-is-parting
+shared_slice_read_is_parting : tie.Need-bounds-text-3
 shared_slice_read_is_parting c = search rules
 
-is_parting_requires : tie.Need-is-parting-requires
+is_parting_requires : tie.Need-is_parting-requires
 is_parting_requires c κs = search rules
 
-returns_3 : tie.Need-returns-3
+returns_3 : tie.Need-returns-then-not-is_parting
 returns_3 c =
     let f = fourth c.before in
-    let said = c.before.is-parting in (
+    let said = c.is_parting in (
       λ table.
-          name_longer (start (named f.before)).args.text.now f.if3.taken
-          (sym said.ensures ∙ not-true said.result c.if4.true),
+          name_longer (start (named f.before)).args.text.now f.if-text-gt3.true
+          (sym said.ensures ∙ not-true said.result c.if-not-is_parting.true-raw),
       refl,
     )
 
-returns_4 : tie.Need-returns-4
+returns_4 : tie.Need-returns-else-not-is_parting
 returns_4 c =
     let f = fourth c.before in
-    let said = c.before.is-parting in
+    let said = c.is_parting in
     let text = (start (named f.before)).args.text.now in (
       λ table.
-          name_found text (named f.before).if1.false f.before.if2.left
-          (ends_at text 3 f.if3.taken (sym said.ensures ∙ not-false said.result c.if4.false)),
+          name_found text (named f.before).if-text-lt3.false f.if-text.false
+          (ends_at text 3 f.if-text-gt3.true (sym said.ensures ∙ not-false said.result c.if-not-is_parting.false-raw)),
       refl,
     )
 
-returns_5 : tie.Need-returns-5
+returns_5 : tie.Need-returns-else-text-gt3
 returns_5 c =
     let e = c.before in
     let text = (start (named e)).args.text.now in
-    (λ table. name_found text (named e).if1.false e.if2.false (ends_with_text text 3 c.if3.false), refl)
+    (λ table. name_found text (named e).if-text-lt3.false e.if-text.false (ends_with_text text 3 c.if-text-gt3.false), refl)
 
 pub name_spec : {M : Type 1} → statement M
 name_spec =

@@ -13,88 +13,88 @@ use Rattle.aiger.proofs.due.reset.Statement.{statement}
 use Rattle.aiger.proofs.due.reset.Tie as tie
 
 -- The points: there is no fault yet, a newline stands at the place, or a space, the reset and the newline are read.
-abbrev start : tie.Else1 → tie.Start
+abbrev start : tie.Else-not-before → tie.Start
 start c = c.before.before.before.before
 
-abbrev stood : tie.After-stands → tie.Else1
+abbrev stood : tie.After-stands → tie.Else-not-before
 stood c = c.before
 
-abbrev ends : tie.After-struct-known2 → tie.Then2
+abbrev ends : tie.After-struct_known-then-stands-1 → tie.Then-stands
 ends c = c.before
 
-abbrev reset_read : tie.After-mark2 → tie.After-reset-word
+abbrev reset_read : tie.After-mark → tie.After-reset_word-read
 reset_read c = c.before.before.before
 
-abbrev spaced : tie.After-reset-word → tie.After-mark
+abbrev spaced : tie.After-reset_word-read → tie.After-mark-spaced
 spaced c = c.before.before
 
-good : (c : tie.Else1) → (start c).args.before.good ≡ true
-good c = not-false (start c).args.before.good c.if1.false
+good : (c : tie.Else-not-before) → (start c).args.before.good ≡ true
+good c = not-false (start c).args.before.good c.if-not-before.false
 
-module _ (c : tie.Then2) where
+module _ (c : tie.Then-stands) where
   stands_newline : let a = (start (stood c.before)).args in begins_with newline_byte (drop a.before.place a.text.now) ≡ true
-  stands_newline = sym c.before.stands.ensures ∙ c.if2.true
+  stands_newline = sym c.stands.ensures ∙ c.if-stands.true
 
-returns : tie.Need-returns
+returns : tie.Need-returns-then-not-before
 returns c =
-    let a = c.before.before.before.before.args in
-    fault_keeps (reset_due a.own) a.text.now a.before 1 a.table.now (not-true a.before.good c.if1.true)
+    let a = c.args in
+    fault_keeps (reset_due a.own) a.text.now a.before 1 a.table.now (not-true a.before.good c.if-not-before.true)
 
 stands_requires : tie.Need-stands-requires
 stands_requires c κs = search rules
 
-mul_table : tie.Need-overflow-mul-table
+mul_table : tie.Need-offset_bounds-table-filled
 mul_table c = search rules
 
-slice_write_table : tie.Need-slice-write-table
+slice_write_table : tie.Need-bounds-table-filled
 slice_write_table c = search rules
 
-add_t10 : tie.Need-overflow-add-t10
+add_t10 : tie.Need-overflow_add-result
 add_t10 c =
     let a = (start (stood (ends c).before)).args in
     let l : a.before.place < length a.text.now =
     begins_below a.text.now a.before.place newline_byte (stands_newline (ends c)) in
     omega arith
 
-add_t12 : tie.Need-overflow-add-t12
+add_t12 : tie.Need-overflow_add-result-then-stands
 add_t12 c = search rules
 
-same_length : tie.Need-same-length
+same_length : tie.Need-shape_of-table-then-stands
 same_length c = search rules
 
-returns_2 : tie.Need-returns-2
+returns_2 : tie.Need-returns-then-stands
 returns_2 c =
     let s = start (stood (ends c).before) in
     let a = s.args in
     on_keeps (reset_due a.own) a.text.now a.before a.table.now 0 (a.before.place + 1)
     (good (stood (ends c).before))
-    s.pre
+    s.requires
     (newline_found a.text.now a.before.place a.own (stands_newline (ends c)))
 
-mark_requires : tie.Need-mark-requires
+mark_requires : tie.Need-mark-spaced-requires
 mark_requires c κs = search rules
 
-reset_word_requires : tie.Need-reset-word-requires
+reset_word_requires : tie.Need-reset_word-read-requires
 reset_word_requires c κs = search rules
 
-mark_requires_2 : tie.Need-mark-requires-2
+mark_requires_2 : tie.Need-mark-requires
 mark_requires_2 c κs = search rules
 
-same_length_2 : tie.Need-same-length-2
+same_length_2 : tie.Need-shape_of-table
 same_length_2 c = search rules
 
-returns_3 : tie.Need-returns-3
+returns_3 : tie.Need-returns
 returns_3 c =
     let r = reset_read c in
     let m = spaced r in
     let e = m.before in
     let a = (start (stood e.before)).args in
-    in_turn_keeps a.text.now a.table.now _ a.own a.before m.mark.result r.reset_word.result c.mark2.result
+    in_turn_keeps a.text.now a.table.now _ a.own a.before m.mark-spaced.result r.reset_word-read.result c.mark.result
     (good (stood e.before))
-    (sym e.before.stands.ensures ∙ e.if2.left)
-    m.mark.ensures
-    r.reset_word.ensures
-    c.mark2.ensures
+    (sym e.stands.ensures ∙ e.if-stands.false)
+    m.mark-spaced.ensures
+    r.reset_word-read.ensures
+    c.mark.ensures
 
 pub reset_spec : {M : Type 1} → statement M
 reset_spec =

@@ -16,83 +16,83 @@ use Rattle.aiger.proofs.due.reset_word.Statement.{statement}
 use Rattle.aiger.proofs.due.reset_word.Tie as tie
 
 -- The points: there is no fault yet, the word is read, it is a number, and the number is a reset.
-abbrev start : tie.Else1 → tie.Start
+abbrev start : tie.Else-not-before → tie.Start
 start c = c.before.before.before.before
 
-abbrev word_read : tie.After-struct-known3 → tie.After-word-at
+abbrev word_read : tie.After-struct_known-3-1 → tie.After-word_at-word
 word_read c = c.before.before
 
-abbrev right : tie.After-struct-known4 → tie.Else2
+abbrev right : tie.After-struct_known-4-1 → tie.Else-word
 right c = c.before
 
-abbrev chosen : tie.After-as-reset → tie.Else3
+abbrev chosen : tie.After-as_reset → tie.Else-n-own
 chosen c = c.before
 
-good : (c : tie.Else1) → (start c).args.before.good ≡ true
-good c = not-false (start c).args.before.good c.if1.false
+good : (c : tie.Else-not-before) → (start c).args.before.good ≡ true
+good c = not-false (start c).args.before.good c.if-not-before.false
 
-within : (c : tie.Else2) → let s = (word_read c.before).word_at.result.state in (1 ≤ s) × (s < no_number)
+within : (c : tie.Else-word) → let s = (word_read c.before).word_at-word.result.state in (1 ≤ s) × (s < no_number)
 unfolding largest_number
-within c = state_within (word_read c.before).word_at.result.state c.if2.false
+within c = state_within (word_read c.before).word_at-word.result.state c.if-word.false
 
-returns : tie.Need-returns
+returns : tie.Need-returns-then-not-before
 returns c =
-    let a = c.before.before.before.before.args in
-    fault_keeps (reset_word a.own) a.text.now a.before 1 a.table.now (not-true a.before.good c.if1.true)
+    let a = c.args in
+    fault_keeps (reset_word a.own) a.text.now a.before 1 a.table.now (not-true a.before.good c.if-not-before.true)
 
-word_at_requires : tie.Need-word-at-requires
+word_at_requires : tie.Need-word_at-word-requires
 word_at_requires c κs = search rules
 
-returns_2 : tie.Need-returns-2
+returns_2 : tie.Need-returns-then-word
 unfolding largest_number
 returns_2 c =
     let r = word_read c.before in
     let a = (start r.before).args in
     wrong_keeps (reset_word a.own) a.text.now a.before 1 a.table.now (good r.before)
-    (reset_none a.text.now a.before.place r.word_at.result r.word_at.ensures a.own c.if2.true)
+    (reset_none a.text.now a.before.place r.word_at-word.result r.word_at-word.ensures a.own c.if-word.true)
 
-sub_n : tie.Need-overflow-sub-n
+sub_n : tie.Need-overflow_sub-n
 sub_n c = (within (right c)).0
 
-cast_n : tie.Need-overflow-cast-n
+cast_n : tie.Need-overflow_cast-n
 unfolding largest_number
 cast_n c = let w = within (right c) in omega arith
 
-returns_3 : tie.Need-returns-3
+returns_3 : tie.Need-returns-then-n-own
 unfolding largest_number
 returns_3 c =
     let n = right c.before in
     let r = word_read n.before in
     let a = (start r.before).args in
     wrong_keeps (reset_word a.own) a.text.now a.before 1 a.table.now (good r.before)
-    (reset_wrong a.text.now a.before.place r.word_at.result r.word_at.ensures a.own n.if2.left c.if3.true)
+    (reset_wrong a.text.now a.before.place r.word_at-word.result r.word_at-word.ensures a.own n.if-word.false c.if-n-own.true)
 
-as_reset_requires : tie.Need-as-reset-requires
+as_reset_requires : tie.Need-as_reset-requires
 as_reset_requires c κs = search rules
 
-mul_table : tie.Need-overflow-mul-table
+mul_table : tie.Need-offset_bounds-table-filled
 mul_table c = search rules
 
-slice_write_table : tie.Need-slice-write-table
+slice_write_table : tie.Need-bounds-table-filled
 slice_write_table c = search rules
 
-add_t14 : tie.Need-overflow-add-t14
+add_t14 : tie.Need-overflow_add-result
 add_t14 c = search rules
 
-same_length : tie.Need-same-length
+same_length : tie.Need-shape_of-table
 same_length c = search rules
 
-returns_4 : tie.Need-returns-4
+returns_4 : tie.Need-returns
 unfolding largest_number
 returns_4 c =
     let n = right (chosen c).before in
     let r = word_read n.before in
     let a = (start r.before).args in
-    let end = r.word_at.result.end in
+    let end = r.word_at-word.result.end in
     on_keeps (reset_word a.own) a.text.now a.before a.table.now c.as_reset.result end
     (good r.before)
     (start r.before).requires
-    (reset_found a.text.now a.before.place r.word_at.result r.word_at.ensures a.own n.if2.left (chosen c).if3.false
+    (reset_found a.text.now a.before.place r.word_at-word.result r.word_at-word.ensures a.own n.if-word.false (chosen c).if-n-own.false
     ∙ ap (λ (k : ℕ). found (k ∷ []) end (drop end a.text.now)) (sym c.as_reset.ensures))
 
 pub reset_word_spec : {M : Type 1} → statement M

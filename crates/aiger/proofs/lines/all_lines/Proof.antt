@@ -8,22 +8,22 @@ use Rattle.aiger.proofs.LinesLaws.{passed, lasts, joined}
 use Rattle.aiger.proofs.lines.all_lines.Statement.{statement}
 use Rattle.aiger.proofs.lines.all_lines.Tie as tie
 
-mark_requires : tie.Need-mark-requires
+mark_requires : tie.Need-mark-opened-requires
 mark_requires c κs = search rules
 
-lines_requires : tie.Need-lines-requires
+lines_requires : tie.Need-lines-inputs-requires
 lines_requires c κs = search rules
 
-lines_requires_2 : tie.Need-lines-requires-2
+lines_requires_2 : tie.Need-lines-latches-requires
 lines_requires_2 c κs = search rules
 
-lines_requires_3 : tie.Need-lines-requires-3
+lines_requires_3 : tie.Need-lines-outputs-requires
 lines_requires_3 c κs = search rules
 
-lines_requires_4 : tie.Need-lines-requires-4
+lines_requires_4 : tie.Need-lines-requires
 lines_requires_4 c κs = search rules
 
-same_length : tie.Need-same-length
+same_length : tie.Need-shape_of-table
 same_length c = search rules
 
 returns : tie.Need-returns
@@ -33,7 +33,7 @@ returns c =
     let latches = outputs.before.before.before.before in
     let inputs = latches.before.before.before.before in
     let opened = inputs.before.before in
-    let s = sizes_of opened.before.before.before.args.s in
+    let s = sizes_of opened.args.s in
     let opening = newline ∷ [] in
     let to_inputs = opening ++ lines_of Input s in
     let to_latches = to_inputs ++ lines_of Latch s in
@@ -42,10 +42,10 @@ returns c =
     joined to_outputs (lines_of Gate s)
     (joined to_latches (lines_of Output s)
     (joined to_inputs (lines_of Latch s)
-    (joined opening (lines_of Input s) (lasts (passed opened.mark.ensures)) inputs.lines.ensures)
-    latches.lines2.ensures)
-    outputs.lines3.ensures)
-    gates.lines4.ensures in
+    (joined opening (lines_of Input s) (lasts (passed opened.mark-opened.ensures)) inputs.lines-inputs.ensures)
+    latches.lines-latches.ensures)
+    outputs.lines-outputs.ensures)
+    gates.lines.ensures in
     all.reads
 
 pub all_lines_spec : {M : Type 1} → statement M

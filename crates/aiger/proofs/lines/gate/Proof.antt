@@ -10,22 +10,22 @@ use Rattle.aiger.proofs.lines.gate.Tie as tie
 exactly_requires : tie.Need-exactly-requires
 exactly_requires c κs = search rules
 
-sub_spaced : tie.Need-overflow-sub-spaced
+sub_spaced : tie.Need-overflow_sub-own
 sub_spaced c = search rules
 
-spaced_requires : tie.Need-spaced-requires
+spaced_requires : tie.Need-spaced-left-requires
 spaced_requires c κs = search rules
 
-sub_spaced_2 : tie.Need-overflow-sub-spaced-2
+sub_spaced_2 : tie.Need-overflow_sub-own-2
 sub_spaced_2 c = search rules
 
-spaced_requires_2 : tie.Need-spaced-requires-2
+spaced_requires_2 : tie.Need-spaced-right-requires
 spaced_requires_2 c κs = search rules
 
 mark_requires : tie.Need-mark-requires
 mark_requires c κs = search rules
 
-same_length : tie.Need-same-length
+same_length : tie.Need-shape_of-table
 same_length c = search rules
 
 returns : tie.Need-returns
@@ -37,8 +37,8 @@ returns c =
     let own = start.args.own in
     let spaced-below = space ∷ below own ∷ [] in
     followed (passed owned.exactly.ensures)
-    (all_followed spaced-below (kept_below own start.requires.0 left.spaced.ensures)
-    (all_followed spaced-below (kept_below own start.requires.0 right.spaced2.ensures)
+    (all_followed spaced-below (kept_below own start.requires.0 left.spaced-left.ensures)
+    (all_followed spaced-below (kept_below own start.requires.0 right.spaced-right.ensures)
     (lasts (passed c.mark.ensures))))
 
 pub gate_spec : {M : Type 1} → statement M

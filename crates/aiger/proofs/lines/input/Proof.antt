@@ -11,7 +11,7 @@ mark_requires : tie.Need-mark-requires
 mark_requires c κs = search rules
 
 returns : tie.Need-returns
-returns c = passed_both c.before.exactly.ensures c.mark.ensures
+returns c = passed_both c.exactly.ensures c.mark.ensures
 
 pub input_spec : {M : Type 1} → statement M
 input_spec = tie.close (tie.spec exactly_requires mark_requires returns)

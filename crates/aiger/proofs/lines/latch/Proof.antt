@@ -9,13 +9,13 @@ use Rattle.aiger.proofs.lines.latch.Tie as tie
 exactly_requires : tie.Need-exactly-requires
 exactly_requires c κs = search rules
 
-spaced_requires : tie.Need-spaced-requires
+spaced_requires : tie.Need-spaced-next-requires
 spaced_requires c κs = search rules
 
 reset_requires : tie.Need-reset-requires
 reset_requires c κs = search rules
 
-same_length : tie.Need-same-length
+same_length : tie.Need-shape_of-table
 same_length c = search rules
 
 returns : tie.Need-returns
@@ -23,7 +23,7 @@ returns c =
     let reset = c.before.before in
     let next = reset.before.before.before.before in
     let owned = next.before.before in
-    followed (passed owned.exactly.ensures) (all_followed (space ∷ at_most _ ∷ []) next.spaced.ensures (lasts reset.reset.ensures))
+    followed (passed owned.exactly.ensures) (all_followed (space ∷ at_most _ ∷ []) next.spaced-next.ensures (lasts reset.reset.ensures))
 
 pub latch_spec : {M : Type 1} → statement M
 latch_spec = tie.close (tie.spec exactly_requires spaced_requires reset_requires same_length returns)

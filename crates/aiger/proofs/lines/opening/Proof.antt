@@ -11,16 +11,16 @@ use Rattle.aiger.proofs.lines.opening.Statement.{statement}
 use Rattle.aiger.proofs.lines.opening.Tie as tie
 
 -- The points: each size is read after the one before it, the first after the name.
-abbrev latches_of : tie.After-spaced4 → tie.After-spaced3
+abbrev latches_of : tie.After-spaced-outputs → tie.After-spaced-latches
 latches_of c = c.before.before.before.before
 
-abbrev inputs_of : tie.After-spaced4 → tie.After-spaced2
+abbrev inputs_of : tie.After-spaced-outputs → tie.After-spaced-inputs
 inputs_of c = (latches_of c).before.before.before.before
 
-abbrev m_of : tie.After-spaced4 → tie.After-spaced
+abbrev m_of : tie.After-spaced-outputs → tie.After-spaced-m
 m_of c = (inputs_of c).before.before.before.before
 
-abbrev name_of : tie.After-spaced4 → tie.After-name
+abbrev name_of : tie.After-spaced-outputs → tie.After-name
 name_of c = (m_of c).before.before
 
 -- What is due for a size.
@@ -34,34 +34,34 @@ room_left h e h₁ h₂ h₃ h₄ k = omega arith
 name_requires : tie.Need-name-requires
 name_requires c κs = search rules
 
-cast_spaced : tie.Need-overflow-cast-spaced
+cast_spaced : tie.Need-overflow_cast-spaced
 cast_spaced c = search rules
 
-spaced_requires : tie.Need-spaced-requires
+spaced_requires : tie.Need-spaced-m-requires
 spaced_requires c κs = search rules
 
-spaced_requires_2 : tie.Need-spaced-requires-2
+spaced_requires_2 : tie.Need-spaced-inputs-requires
 spaced_requires_2 c κs = search rules
 
-spaced_requires_3 : tie.Need-spaced-requires-3
+spaced_requires_3 : tie.Need-spaced-latches-requires
 spaced_requires_3 c κs = search rules
 
-spaced_requires_4 : tie.Need-spaced-requires-4
+spaced_requires_4 : tie.Need-spaced-outputs-requires
 spaced_requires_4 c κs = search rules
 
-spaced_requires_5 : tie.Need-spaced-requires-5
+spaced_requires_5 : tie.Need-spaced-requires
 spaced_requires_5 c κs =
     let outputs = c.before.before.before in
     let latches = latches_of outputs in
     let inputs = inputs_of outputs in
     let m = m_of outputs in
     let named = name_of outputs in
-    room_left named.before.before.before.pre named.name.ensures.1
-    m.spaced.ensures.filled_within inputs.spaced2.ensures.filled_within
-    latches.spaced3.ensures.filled_within outputs.spaced4.ensures.filled_within
-    (outputs.spaced4.auto.1.1.1.0 ∙ latches.spaced3.kept.1.1.1.0 ∙ inputs.spaced2.kept.1.1.1.0 ∙ m.spaced.kept.1.1.1.0)
+    room_left named.requires named.name.ensures.1
+    m.spaced-m.ensures.filled_within inputs.spaced-inputs.ensures.filled_within
+    latches.spaced-latches.ensures.filled_within outputs.spaced-outputs.ensures.filled_within
+    (outputs.spaced-outputs.auto.table ∙ latches.spaced-latches.auto.table ∙ inputs.spaced-inputs.auto.table ∙ m.spaced-m.auto.table)
 
-same_length : tie.Need-same-length
+same_length : tie.Need-shape_of-table
 same_length c = search rules
 
 returns : tie.Need-returns
@@ -74,10 +74,10 @@ returns c =
     let m = m_of outputs in
     let named = name_of outputs in
     read_on (named.name.ensures.0 _)
-    (all_followed (size largest_number) m.spaced.ensures
-    (all_followed (size inputs_limit) inputs.spaced2.ensures
-    (all_followed (size latches_limit) latches.spaced3.ensures
-    (all_followed (size outputs_limit) outputs.spaced4.ensures gates.spaced5.ensures))))
+    (all_followed (size largest_number) m.spaced-m.ensures
+    (all_followed (size inputs_limit) inputs.spaced-inputs.ensures
+    (all_followed (size latches_limit) latches.spaced-latches.ensures
+    (all_followed (size outputs_limit) outputs.spaced-outputs.ensures gates.spaced.ensures))))
 
 pub opening_spec : {M : Type 1} → statement M
 opening_spec =

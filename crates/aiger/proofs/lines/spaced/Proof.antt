@@ -7,16 +7,16 @@ use Rattle.aiger.proofs.lines.spaced.Tie as tie
 mark_requires : tie.Need-mark-requires
 mark_requires c κs = search rules
 
-at_most_requires : tie.Need-at-most-requires
+at_most_requires : tie.Need-at_most-requires
 at_most_requires c κs = search rules
 
-same_length : tie.Need-same-length
+same_length : tie.Need-shape_of-table
 same_length c = search rules
 
 returns : tie.Need-returns
 returns c =
     let number = c.before.before in
-    followed (passed number.before.before.mark.ensures) (lasts number.at_most.ensures)
+    followed (passed number.mark.ensures) (lasts number.at_most.ensures)
 
 pub spaced_spec : {M : Type 1} → statement M
 spaced_spec = tie.close (tie.spec mark_requires at_most_requires same_length returns)

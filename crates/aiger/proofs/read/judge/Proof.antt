@@ -18,129 +18,129 @@ use Rattle.aiger.proofs.read.judge.Tie as tie
 
 -- ════════ The points, and what is known there ════════
 
-abbrev start : tie.After-opening → tie.Start
+abbrev start : tie.After-opening-opened → tie.Start
 start c = c.before.before.before.before
 
-abbrev text : tie.After-opening → List ℕ
+abbrev text : tie.After-opening-opened → List ℕ
 text c = (start c).args.text.now
 
 -- The table after the header.
-abbrev table : tie.After-opening → List ℕ
-table c = c.opening.new.1.0
+abbrev table : tie.After-opening-opened → List ℕ
+table c = c.opening-opened.new.table
 
-abbrev sizes : tie.After-opening → circuits.Sizes
+abbrev sizes : tie.After-opening-opened → circuits.Sizes
 sizes c = sizes_read (table c)
 
 -- Where the header is good.
-abbrev opened : tie.Else1 → tie.After-opening
+abbrev opened : tie.Else-not-opened → tie.After-opening-opened
 opened c = c.before.before.before.before
 
-abbrev sized : tie.After-slice-known7 → tie.Else1
+abbrev sized : tie.After-slice_known-7-1 → tie.Else-not-opened
 sized c = c.before.before.before.before.before
 
 -- Where M is right.
-abbrev measured : tie.After-all-lines → tie.Else2
+abbrev measured : tie.After-all_lines-ended → tie.Else-table-width
 measured c = c.before.before
 
-five : (c : tie.After-opening) → 5 ≤ length (table c)
-five c = omega (arith, header_fits _ (start c).requires, c.opening.auto.1.0)
+five : (c : tie.After-opening-opened) → 5 ≤ length (table c)
+five c = omega (arith, header_fits _ (start c).requires, c.opening-opened.auto.table)
 
-header : (c : tie.Else1) → HeaderRead (text (opened c)) (table (opened c)) (opened c).opening.result.place
-header c = header_read _ (table (opened c)) (opened c).opening.result (opened c).opening.ensures (not-false _ c.if1.false)
+header : (c : tie.Else-not-opened) → HeaderRead (text (opened c)) (table (opened c)) (opened c).opening-opened.result.place
+header c = header_read _ (table (opened c)) (opened c).opening-opened.result (opened c).opening-opened.ensures (not-false _ c.if-not-opened.false)
 
 -- After the lines.
-module _ (c : tie.After-all-lines) where
-  abbrev by_header : tie.After-opening
+module _ (c : tie.After-all_lines-ended) where
+  abbrev by_header : tie.After-opening-opened
   by_header = opened (sized (measured c).before.before)
 
   abbrev lines_from : ℕ
-  lines_from = by_header.opening.result.place
+  lines_from = by_header.opening-opened.result.place
 
   abbrev lines : Reading
   lines = ordered (sizes by_header) (in_turn (lines_due (sizes by_header)) lines_from (drop lines_from (text by_header)))
 
   abbrev ended : Reached
-  ended = c.all_lines.result
+  ended = c.all_lines-ended.result
 
   abbrev numbers : List ℕ
-  numbers = c.all_lines.new.1.1.1.0
+  numbers = c.all_lines-ended.new.table
 
   read_as_lines : circuit_read (text by_header) ≡ lines
   read_as_lines =
       let width = (measured c).before in
-      (header (sized width.before)).after_header ((measured c).if2.false ∙ width.width.ensures)
+      (header (sized width.before)).after_header ((measured c).if-table-width.false ∙ width.width.ensures)
 
   faulty : ended.good ≡ false → circuit_read (text by_header) ≡ fault ended.place
   faulty bad =
-      read_as_lines ∙ lines_fault (text by_header) (sizes by_header) lines_from (drop lines_from (text by_header)) numbers ended c.all_lines.ensures bad
+      read_as_lines ∙ lines_fault (text by_header) (sizes by_header) lines_from (drop lines_from (text by_header)) numbers ended c.all_lines-ended.ensures bad
 
   whole : ended.good ≡ true → FoundWords (circuit_read (text by_header)) (in_order (sizes by_header) (take (numbers_kept (sizes by_header)) numbers))
   whole good = record {
     ended_at = ended.place;
     unread = drop ended.place (text by_header);
-    found_is = read_as_lines ∙ lines_found (text by_header) (sizes by_header) lines_from (drop lines_from (text by_header)) numbers ended c.all_lines.ensures good;
+    found_is = read_as_lines ∙ lines_found (text by_header) (sizes by_header) lines_from (drop lines_from (text by_header)) numbers ended c.all_lines-ended.ensures good;
   }
 
 -- ════════ The needs ════════
 
-opening_requires : tie.Need-opening-requires
-opening_requires c κs = header_fits _ c.before.before.before.requires
+opening_requires : tie.Need-opening-opened-requires
+opening_requires c κs = header_fits _ c.requires
 
-same_length : tie.Need-same-length
+same_length : tie.Need-shape_of-table-then-not-opened
 same_length c = search rules
 
-returns : tie.Need-returns
+returns : tie.Need-returns-then-not-opened
 returns c =
     let o = c.before.before.before.before in
     record {
-      judged = read_opening_fault (text o) (sym o.opening.ensures ∙ reached_fault (text o) o.opening.result (table o) (not-true _ c.if1.true));
+      judged = read_opening_fault (text o) (sym o.opening-opened.ensures ∙ reached_fault (text o) o.opening-opened.result (table o) (not-true _ c.if-not-opened.true));
     }
 
-slice_read_if2 : tie.Need-slice-read-if2
+slice_read_if2 : tie.Need-bounds-table-1
 slice_read_if2 c = omega (arith, five (opened c.before))
 
-slice_read_t13 : tie.Need-slice-read-t13
+slice_read_t13 : tie.Need-bounds-table-2
 slice_read_t13 c = omega (arith, five (opened c.before.before))
 
-slice_read_t15 : tie.Need-slice-read-t15
+slice_read_t15 : tie.Need-bounds-table-4
 slice_read_t15 c = omega (arith, five (opened c.before.before.before))
 
-slice_read_if2_2 : tie.Need-slice-read-if2-2
+slice_read_if2_2 : tie.Need-bounds-table-3
 slice_read_if2_2 c = omega (arith, five (opened c.before.before.before.before))
 
-slice_read_if2_3 : tie.Need-slice-read-if2-3
-slice_read_if2_3 c = omega (arith, five (opened (sized c)))
+slice_read_if2_3 : tie.Need-bounds-table-0
+slice_read_if2_3 c = omega (arith, five (opened c.before.before.before.before.before))
 
 width_requires : tie.Need-width-requires
 width_requires c κs = (header (sized c)).fitting
 
-same_length_2 : tie.Need-same-length-2
+same_length_2 : tie.Need-shape_of-table-then-table-width
 same_length_2 c = search rules
 
-returns_2 : tie.Need-returns-2
+returns_2 : tie.Need-returns-then-table-width
 returns_2 c =
     let width = c.before in
-    record { judged = (header (sized width.before)).other_variable (λ q. c.if2.true (q ∙ sym width.width.ensures)) }
+    record { judged = (header (sized width.before)).other_variable (λ q. c.if-table-width.true (q ∙ sym width.width.ensures)) }
 
-all_lines_requires : tie.Need-all-lines-requires
+all_lines_requires : tie.Need-all_lines-ended-requires
 all_lines_requires c κs =
     let at = sized c.before.before.before in
     let o = opened at in
-    ((header at).fitting, omega (arith, lines_fit (sizes o) (length (table o)) (header at).fitting (omega (arith, (start o).pre, o.opening.kept.1.0))))
+    ((header at).fitting, omega (arith, lines_fit (sizes o) (length (table o)) (header at).fitting (omega (arith, (start o).requires, o.opening-opened.auto.table))))
 
-same_length_3 : tie.Need-same-length-3
+same_length_3 : tie.Need-shape_of-table-then-not-ended
 same_length_3 c = search rules
 
-returns_3 : tie.Need-returns-3
-returns_3 c = record { judged = faulty c.before.before.before.before (not-true _ c.if3.true) }
+returns_3 : tie.Need-returns-then-not-ended
+returns_3 c = record { judged = faulty c.before.before.before.before (not-true _ c.if-not-ended.true) }
 
-same_length_4 : tie.Need-same-length-4
+same_length_4 : tie.Need-shape_of-table
 same_length_4 c = search rules
 
-returns_4 : tie.Need-returns-4
+returns_4 : tie.Need-returns
 returns_4 c =
     let after = c.before.before.before.before in
-    record { judged = ((header (sized (measured after).before.before)).fitting, whole after (not-false _ c.if3.false)) }
+    record { judged = ((header (sized (measured after).before.before)).fitting, whole after (not-false _ c.if-not-ended.false)) }
 
 pub judge_spec : {M : Type 1} → statement M
 judge_spec =

@@ -8,11 +8,11 @@ use Rattle.aiger.proofs.sizes.largest_literal.Tie as tie
 width_requires : tie.Need-width-requires
 width_requires c κs = search rules
 
-mul_result : tie.Need-overflow-mul-result
+mul_result : tie.Need-overflow_mul-result
 unfolding inputs_limit latches_limit gates_limit
 mul_result c = omega arith
 
-add_result : tie.Need-overflow-add-result
+add_result : tie.Need-overflow_add-result
 unfolding inputs_limit latches_limit gates_limit
 add_result c = omega arith
 

@@ -5,11 +5,11 @@ use Rattle.answers.specs.Limits.{inputs_limit, latches_limit, gates_limit}
 use Rattle.aiger.proofs.sizes.width.Statement.{statement}
 use Rattle.aiger.proofs.sizes.width.Tie as tie
 
-add_result : tie.Need-overflow-add-result
+add_result : tie.Need-overflow_add-result
 unfolding inputs_limit latches_limit
 add_result c = omega arith
 
-add_result_2 : tie.Need-overflow-add-result-2
+add_result_2 : tie.Need-overflow_add-result-2
 unfolding inputs_limit latches_limit gates_limit
 add_result_2 c = omega arith
 

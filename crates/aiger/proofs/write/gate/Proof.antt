@@ -4,16 +4,16 @@ use Rattle.aiger.proofs.LaidTexts.{nothing_laid, laid_put}
 use Rattle.aiger.proofs.write.gate.Statement.{statement}
 use Rattle.aiger.proofs.write.gate.Tie as tie
 
-put_ended_requires : tie.Need-put-ended-requires
+put_ended_requires : tie.Need-put_ended-owned-requires
 put_ended_requires c κs = search rules
 
-put_ended_requires_2 : tie.Need-put-ended-requires-2
+put_ended_requires_2 : tie.Need-put_ended-parted-requires
 put_ended_requires_2 c κs = search rules
 
-put_ended_requires_3 : tie.Need-put-ended-requires-3
+put_ended_requires_3 : tie.Need-put_ended-requires
 put_ended_requires_3 c κs = search rules
 
-same_length : tie.Need-same-length
+same_length : tie.Need-shape_of-out
 same_length c = search rules
 
 -- The points: each number is put.
@@ -23,10 +23,10 @@ returns c =
     let left = right.before.before.before.before in
     let own = left.before.before.before.before in
     let start = own.before.before.before in
-    let none = nothing_laid start.ranges.at.fits start.well-formed.1.1.1.1.0.0 in
-    let to-own = laid_put none own.put_ended.auto.1.1.1.0 own.put_ended.ensures in
-    let to-left = laid_put to-own left.put-ended2.auto.1.1.1.0 left.put-ended2.ensures in
-    (laid_put to-left right.put-ended3.auto.1.1.1.0 right.put-ended3.ensures).lays
+    let none = nothing_laid start.ranges.at.fits start.well_formed.1.1.1.1.0.0 in
+    let to-own = laid_put none own.put_ended-owned.auto.out own.put_ended-owned.ensures in
+    let to-left = laid_put to-own left.put_ended-parted.auto.out left.put_ended-parted.ensures in
+    (laid_put to-left right.put_ended.auto.out right.put_ended.ensures).lays
 
 pub gate_spec : {M : Type 1} → statement M
 gate_spec =

@@ -9,32 +9,32 @@ use Rattle.aiger.proofs.write.header.Statement.{statement}
 use Rattle.aiger.proofs.write.header.Tie as tie
 
 -- The points: each part is put.
-abbrev to_outputs : tie.After-put-ended5 → tie.After-put-ended4
+abbrev to_outputs : tie.After-put_ended → tie.After-put_ended-outputs
 to_outputs c = c.before.before.before.before.before
 
-abbrev to_latches : tie.After-put-ended4 → tie.After-put-ended3
+abbrev to_latches : tie.After-put_ended-outputs → tie.After-put_ended-latches
 to_latches c = c.before.before.before.before.before
 
-abbrev to_inputs : tie.After-put-ended3 → tie.After-put-ended2
+abbrev to_inputs : tie.After-put_ended-latches → tie.After-put_ended-inputs
 to_inputs c = c.before.before.before.before.before
 
-abbrev to_m : tie.After-put-ended2 → tie.After-put-ended
+abbrev to_m : tie.After-put_ended-inputs → tie.After-put_ended-m
 to_m c = c.before.before.before.before.before
 
-abbrev counted : tie.After-put-ended → tie.After-width
+abbrev counted : tie.After-put_ended-m → tie.After-width
 counted c = c.before.before
 
-abbrev named : tie.After-width → tie.After-put-bytes
+abbrev named : tie.After-width → tie.After-put_bytes-named
 named c = c.before.before.before
 
-abbrev entry : tie.After-put-bytes → tie.Start
-entry c = c.before.before.before.before
+abbrev entry : tie.After-put_bytes-named → tie.Start
+entry c = c.before.before.before.before.before
 
-abbrev start : tie.After-put-ended5 → tie.Start
+abbrev start : tie.After-put_ended → tie.Start
 start c = entry (named (counted (to_m (to_inputs (to_latches (to_outputs c))))))
 
-line_laid : (c : tie.After-put-ended5)
-    → Laid (header_line (sizes_of (start c).args.s)) 0 (start c).args.out.now c.put-ended5.result c.put-ended5.new.1.1.1.0
+line_laid : (c : tie.After-put_ended)
+    → Laid (header_line (sizes_of (start c).args.s)) 0 (start c).args.out.now c.put_ended.result c.put_ended.new.out
 line_laid c =
     let outputs = to_outputs c in
     let latches = to_latches outputs in
@@ -42,54 +42,51 @@ line_laid c =
     let m = to_m inputs in
     let w = counted m in
     let name = named w in
-    let none = nothing_laid {at = 0} {o = (entry name).args.out.now} (omega arith) (entry name).good.1.0.0 in
-    let name-laid = laid_put none name.put-bytes.kept.1.1.0 name.put-bytes.ensures in
-    let m-laid = laid_put name-laid m.put_ended.kept.1.1.1.0 (put_as space_byte w.width.ensures m.put_ended.ensures) in
-    let inputs-laid = laid_put m-laid inputs.put-ended2.kept.1.1.1.0 inputs.put-ended2.ensures in
-    let latches-laid = laid_put inputs-laid latches.put-ended3.kept.1.1.1.0 latches.put-ended3.ensures in
-    let outputs-laid = laid_put latches-laid outputs.put-ended4.kept.1.1.1.0 outputs.put-ended4.ensures in
-    laid_put outputs-laid c.put-ended5.auto.1.1.1.0 c.put-ended5.ensures
+    let none = nothing_laid {at = 0} {o = (entry name).args.out.now} (omega arith) (entry name).well_formed.1.0.0 in
+    let name-laid = laid_put none name.put_bytes-named.auto.out name.put_bytes-named.ensures in
+    let m-laid = laid_put name-laid m.put_ended-m.auto.out (put_as space_byte w.width.ensures m.put_ended-m.ensures) in
+    let inputs-laid = laid_put m-laid inputs.put_ended-inputs.auto.out inputs.put_ended-inputs.ensures in
+    let latches-laid = laid_put inputs-laid latches.put_ended-latches.auto.out latches.put_ended-latches.ensures in
+    let outputs-laid = laid_put latches-laid outputs.put_ended-outputs.auto.out outputs.put_ended-outputs.ensures in
+    laid_put outputs-laid c.put_ended.auto.out c.put_ended.ensures
 
-slice_aggregate_put_bytes : tie.Need-slice-aggregate-put-bytes
-slice_aggregate_put_bytes c = search rules
-
-put_bytes_requires : tie.Need-put-bytes-requires
+put_bytes_requires : tie.Need-put_bytes-named-requires
 put_bytes_requires c κs = search rules
 
 width_requires : tie.Need-width-requires
 width_requires c κs = search rules
 
-cast_put_ended : tie.Need-overflow-cast-put-ended
+cast_put_ended : tie.Need-overflow_cast-width
 cast_put_ended c = search rules
 
-put_ended_requires : tie.Need-put-ended-requires
+put_ended_requires : tie.Need-put_ended-m-requires
 put_ended_requires c κs = search rules
 
-cast_put_ended_2 : tie.Need-overflow-cast-put-ended-2
+cast_put_ended_2 : tie.Need-overflow_cast-s
 cast_put_ended_2 c = search rules
 
-put_ended_requires_2 : tie.Need-put-ended-requires-2
+put_ended_requires_2 : tie.Need-put_ended-inputs-requires
 put_ended_requires_2 c κs = search rules
 
-cast_put_ended_3 : tie.Need-overflow-cast-put-ended-3
+cast_put_ended_3 : tie.Need-overflow_cast-s-2
 cast_put_ended_3 c = search rules
 
-put_ended_requires_3 : tie.Need-put-ended-requires-3
+put_ended_requires_3 : tie.Need-put_ended-latches-requires
 put_ended_requires_3 c κs = search rules
 
-cast_put_ended_4 : tie.Need-overflow-cast-put-ended-4
+cast_put_ended_4 : tie.Need-overflow_cast-s-3
 cast_put_ended_4 c = search rules
 
-put_ended_requires_4 : tie.Need-put-ended-requires-4
+put_ended_requires_4 : tie.Need-put_ended-outputs-requires
 put_ended_requires_4 c κs = search rules
 
-cast_put_ended_5 : tie.Need-overflow-cast-put-ended-5
+cast_put_ended_5 : tie.Need-overflow_cast-s-4
 cast_put_ended_5 c = search rules
 
-put_ended_requires_5 : tie.Need-put-ended-requires-5
+put_ended_requires_5 : tie.Need-put_ended-requires
 put_ended_requires_5 c κs = search rules
 
-same_length : tie.Need-same-length
+same_length : tie.Need-shape_of-out
 same_length c = (line_laid c.before.before).kept
 
 returns : tie.Need-returns
@@ -99,7 +96,6 @@ pub header_spec : {M : Type 1} → statement M
 header_spec =
     tie.close
     (tie.spec
-    slice_aggregate_put_bytes
     put_bytes_requires
     width_requires
     cast_put_ended

@@ -5,22 +5,22 @@ use Rattle.aiger.proofs.LaidTexts.{text_laid}
 use Rattle.aiger.proofs.write.text.Statement.{statement}
 use Rattle.aiger.proofs.write.text.Tie as tie
 
-header_requires : tie.Need-header-requires
+header_requires : tie.Need-header-opened-requires
 header_requires c κs = search rules
 
-lines_requires : tie.Need-lines-requires
+lines_requires : tie.Need-lines-inputs-requires
 lines_requires c κs = search rules
 
-lines_requires_2 : tie.Need-lines-requires-2
+lines_requires_2 : tie.Need-lines-latches-requires
 lines_requires_2 c κs = search rules
 
-lines_requires_3 : tie.Need-lines-requires-3
+lines_requires_3 : tie.Need-lines-outputs-requires
 lines_requires_3 c κs = search rules
 
-lines_requires_4 : tie.Need-lines-requires-4
+lines_requires_4 : tie.Need-lines-requires
 lines_requires_4 c κs = search rules
 
-same_length : tie.Need-same-length
+same_length : tie.Need-shape_of-out
 same_length c = search rules
 
 -- The points: the header's line is laid, and the lines of each kind.
@@ -32,12 +32,12 @@ returns c =
     let inputs = latches.before.before.before.before in
     let header = inputs.before.before.before.before in
     let start = header.before.before.before.before in
-    text_laid (sizes_of start.args.s) start.args.words.now start.args.out.now start.well-formed.1.1.0.0
-    header.header.auto.1.0 header.header.ensures
-    inputs.lines.auto.1.1.1.1.0 inputs.lines.ensures
-    latches.lines2.auto.1.1.1.1.0 latches.lines2.ensures
-    outputs.lines3.auto.1.1.1.1.0 outputs.lines3.ensures
-    gates.lines4.auto.1.1.1.1.0 gates.lines4.ensures
+    text_laid (sizes_of start.args.s) start.args.words.now start.args.out.now start.well_formed.1.1.0.0
+    header.header-opened.auto.out header.header-opened.ensures
+    inputs.lines-inputs.auto.out inputs.lines-inputs.ensures
+    latches.lines-latches.auto.out latches.lines-latches.ensures
+    outputs.lines-outputs.auto.out outputs.lines-outputs.ensures
+    gates.lines.auto.out gates.lines.ensures
 
 pub text_spec : {M : Type 1} → statement M
 text_spec =

@@ -9,37 +9,37 @@ use Rattle.encoder.proofs.circuit.closing_latch.Tie as tie
 
 -- ════════ The points ════════
 
-abbrev start : tie.After-struct-known → tie.Start
+abbrev start : tie.After-struct_known-1 → tie.Start
 start c = c.before.before.before
 
 -- ════════ The needs ════════
 
-selector_requires : tie.Need-selector-requires
-selector_requires c κs = (small c.before.requires.0, c.before.requires.1)
+selector_requires : tie.Need-selector-on-requires
+selector_requires c κs = (small c.requires.0, c.requires.1)
 
-add_circuit : tie.Need-overflow-add-circuit
+add_circuit : tie.Need-overflow_add-s
 add_circuit c = omega (arith, width_sum (start c).requires.0, width_word (start c).requires.0)
 
-add_circuit_2 : tie.Need-overflow-add-circuit-2
+add_circuit_2 : tie.Need-overflow_add-s-2
 add_circuit_2 c = omega (arith, width_sum (start c).requires.0, width_word (start c).requires.0)
 
-circuit_requires : tie.Need-circuit-requires
+circuit_requires : tie.Need-circuit-x-requires
 circuit_requires c κs =
     let n = (start c).requires in
     (small n.0, n.1, omega (arith, width_sum n.0))
 
-latch_next_requires : tie.Need-latch-next-requires
+latch_next_requires : tie.Need-latch_next-requires
 latch_next_requires c κs = search rules
 
-literal_requires : tie.Need-literal-requires
+literal_requires : tie.Need-literal-a-requires
 literal_requires c κs =
     let n = (start c.before.before).requires in
-    (small n.0, omega arith, rw c.latch-next.ensures (next_within n.0 n.2))
+    (small n.0, omega arith, rw c.latch_next.ensures (next_within n.0 n.2))
 
-guarded_form_requires : tie.Need-guarded-form-requires
+guarded_form_requires : tie.Need-guarded_form-requires
 guarded_form_requires c κs = search rules
 
-same_length : tie.Need-same-length
+same_length : tie.Need-shape_of-room
 same_length c = search rules
 
 returns : tie.Need-returns
@@ -48,8 +48,8 @@ returns c =
     let x = a.before.before in
     let on = x.before.before in
     let good = (start x.before).requires.0 in
-    rw (literal_passed on.selector.ensures (sized good), latch_passed good _ _ x.circuit.ensures, read_passed_at_bound good a.before.latch-next.ensures a.literal.ensures)
-    at c.before.guarded_form.ensures
+    rw (literal_passed on.selector-on.ensures (sized good), latch_passed good _ _ x.circuit-x.ensures, read_passed_at_bound good a.latch_next.ensures a.literal-a.ensures)
+    at c.guarded_form.ensures
 
 pub closing_latch_spec : {M : Type 1} → statement M
 closing_latch_spec =

@@ -10,54 +10,54 @@ use Rattle.encoder.proofs.ForEachNumber.{Clauses, clauses_none, clauses_length, 
 use Rattle.encoder.proofs.circuit.closings_at.Statement.{statement}
 use Rattle.encoder.proofs.circuit.closings_at.Tie as tie
 
-abbrev invariant_loop : tie.invariant_loop
+abbrev invariant_loop : tie.invariant-loop-i
 invariant_loop words s room₀ at l next₀ i₀ room next i =
     Clauses (closing_clauses (problem_in s words) l) (length (problem_in s words).latches) at room₀ room i next
 
-abbrev decreases_loop : tie.decreases_loop
+abbrev decreases_loop : tie.decreases-loop-i
 decreases_loop words s room₀ at l next₀ i₀ room next i = s.latches - i
 
 -- ════════ The points ════════
 
 -- The state before a turn, and the function's start.
-abbrev head : tie.Then1 invariant_loop decreases_loop → tie.At-loop invariant_loop decreases_loop
+abbrev head : tie.In-loop-i invariant_loop decreases_loop → tie.At-loop-i invariant_loop decreases_loop
 head turn = turn.before.before
 
-abbrev start : tie.At-loop invariant_loop decreases_loop → tie.Start invariant_loop decreases_loop
+abbrev start : tie.At-loop-i invariant_loop decreases_loop → tie.Start invariant_loop decreases_loop
 start head = head.before.before
 
-below : (turn : tie.Then1 invariant_loop decreases_loop)
+below : (turn : tie.In-loop-i invariant_loop decreases_loop)
     → (let entry = start (head turn) in
-    (head turn).loop.i < length (problem_in entry.args.s entry.args.words.now).latches)
-below turn = rw (shows _ _).latches_are turn.if1.true
+    (head turn).loop-i.i < length (problem_in entry.args.s entry.args.words.now).latches)
+below turn = rw (shows _ _).latches_are turn.loop-i-test.true
 
 -- ════════ The needs ════════
 
-loop_holds : tie.Need-loop-init invariant_loop decreases_loop
-loop_holds c = clauses_none c.before.requires.2
+loop_holds : tie.Need-loop-i-init invariant_loop decreases_loop
+loop_holds c = clauses_none c.requires.2
 
-closing_latch_requires : tie.Need-closing-latch-requires invariant_loop decreases_loop
+closing_latch_requires : tie.Need-closing_latch-next-requires invariant_loop decreases_loop
 closing_latch_requires c κs =
     let turn = c.before in
-    let n = (start (head turn)).pre in
-    (n.0, n.1, turn.if1.true, clauses_room (head turn).loop.invariant (below turn))
+    let n = (start (head turn)).requires in
+    (n.0, n.1, turn.loop-i-test.true, clauses_room (head turn).loop-i.invariant (below turn))
 
-add_i : tie.Need-overflow-add-i invariant_loop decreases_loop
+add_i : tie.Need-overflow_add-i invariant_loop decreases_loop
 add_i c = search rules
 
-loop_less : tie.Need-loop-smaller invariant_loop decreases_loop
+loop_less : tie.Need-loop-i-smaller invariant_loop decreases_loop
 loop_less c = omega arith
 
-loop_again : tie.Need-loop-preserved invariant_loop decreases_loop
+loop_again : tie.Need-loop-i-preserved invariant_loop decreases_loop
 loop_again c =
     let turn = c.before.before.before in
-    clauses_more (head turn).loop.invariant (below turn) c.before.closing-latch.ensures
+    clauses_more (head turn).loop-i.invariant (below turn) c.closing_latch-next.ensures
 
-same_length : tie.Need-same-length invariant_loop decreases_loop
-same_length c = clauses_length c.before.before.loop.invariant
+same_length : tie.Need-shape_of-room invariant_loop decreases_loop
+same_length c = clauses_length c.loop-i.invariant
 
 returns : tie.Need-returns invariant_loop decreases_loop
-returns c = clauses_all c.before.before.loop.invariant (rw (shows _ _).latches_are c.if1.false)
+returns c = clauses_all c.loop-i.invariant (rw (shows _ _).latches_are c.loop-i-test.false)
 
 pub closings_at_spec : {M : Type 1} → statement M
 closings_at_spec =

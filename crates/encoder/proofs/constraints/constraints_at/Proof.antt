@@ -10,54 +10,54 @@ use Rattle.encoder.proofs.ForEachNumber.{Clauses, clauses_none, clauses_length, 
 use Rattle.encoder.proofs.constraints.constraints_at.Statement.{statement}
 use Rattle.encoder.proofs.constraints.constraints_at.Tie as tie
 
-abbrev invariant_loop : tie.invariant_loop
+abbrev invariant_loop : tie.invariant-loop-c
 invariant_loop words s room₀ at t next₀ c₀ room next c =
     Clauses (constraint_unit (problem_in s words) t) (length (problem_in s words).constraints) at room₀ room c next
 
-abbrev decreases_loop : tie.decreases_loop
+abbrev decreases_loop : tie.decreases-loop-c
 decreases_loop words s room₀ at t next₀ c₀ room next c = s.constraints - c
 
 -- ════════ The points ════════
 
 -- The state before a turn, and the function's start.
-abbrev head : tie.Then1 invariant_loop decreases_loop → tie.At-loop invariant_loop decreases_loop
+abbrev head : tie.In-loop-c invariant_loop decreases_loop → tie.At-loop-c invariant_loop decreases_loop
 head turn = turn.before.before
 
-abbrev start : tie.At-loop invariant_loop decreases_loop → tie.Start invariant_loop decreases_loop
+abbrev start : tie.At-loop-c invariant_loop decreases_loop → tie.Start invariant_loop decreases_loop
 start head = head.before.before
 
-below : (turn : tie.Then1 invariant_loop decreases_loop)
+below : (turn : tie.In-loop-c invariant_loop decreases_loop)
     → (let entry = start (head turn) in
-    (head turn).loop.c < length (problem_in entry.args.s entry.args.words.now).constraints)
-below turn = rw (shows _ _).constraints_are turn.if1.true
+    (head turn).loop-c.c < length (problem_in entry.args.s entry.args.words.now).constraints)
+below turn = rw (shows _ _).constraints_are turn.loop-c-test.true
 
 -- ════════ The needs ════════
 
-loop_holds : tie.Need-loop-init invariant_loop decreases_loop
-loop_holds c = clauses_none c.before.requires.2
+loop_holds : tie.Need-loop-c-init invariant_loop decreases_loop
+loop_holds c = clauses_none c.requires.2
 
-constraint_unit_requires : tie.Need-constraint-unit-requires invariant_loop decreases_loop
+constraint_unit_requires : tie.Need-constraint_unit-next-requires invariant_loop decreases_loop
 constraint_unit_requires c κs =
     let turn = c.before in
-    let n = (start (head turn)).pre in
-    (n.0, n.1, turn.if1.true, clauses_room (head turn).loop.invariant (below turn))
+    let n = (start (head turn)).requires in
+    (n.0, n.1, turn.loop-c-test.true, clauses_room (head turn).loop-c.invariant (below turn))
 
-add_c : tie.Need-overflow-add-c invariant_loop decreases_loop
+add_c : tie.Need-overflow_add-c invariant_loop decreases_loop
 add_c c = search rules
 
-loop_less : tie.Need-loop-smaller invariant_loop decreases_loop
+loop_less : tie.Need-loop-c-smaller invariant_loop decreases_loop
 loop_less c = omega arith
 
-loop_again : tie.Need-loop-preserved invariant_loop decreases_loop
+loop_again : tie.Need-loop-c-preserved invariant_loop decreases_loop
 loop_again c =
     let turn = c.before.before.before in
-    clauses_more (head turn).loop.invariant (below turn) c.before.constraint_unit.ensures
+    clauses_more (head turn).loop-c.invariant (below turn) c.constraint_unit-next.ensures
 
-same_length : tie.Need-same-length invariant_loop decreases_loop
-same_length c = clauses_length c.before.before.loop.invariant
+same_length : tie.Need-shape_of-room invariant_loop decreases_loop
+same_length c = clauses_length c.loop-c.invariant
 
 returns : tie.Need-returns invariant_loop decreases_loop
-returns c = clauses_all c.before.before.loop.invariant (rw (shows _ _).constraints_are c.if1.false)
+returns c = clauses_all c.loop-c.invariant (rw (shows _ _).constraints_are c.loop-c-test.false)
 
 pub constraints_at_spec : {M : Type 1} → statement M
 constraints_at_spec =

@@ -22,28 +22,28 @@ use Rattle.encoder.proofs.encode.all_items.Tie as tie
 -- ════════ The points ════════
 
 -- The function's start, from after each item.
-abbrev from_truth : tie.After-clause1 → tie.Start
+abbrev from_truth : tie.After-clause1-next → tie.Start
 from_truth c = c.before.before.before
 
-abbrev from_gates : tie.After-gates → tie.Start
+abbrev from_gates : tie.After-gates-next → tie.Start
 from_gates c = from_truth c.before.before.before
 
-abbrev from_constraints : tie.After-constraints → tie.Start
+abbrev from_constraints : tie.After-constraints-next → tie.Start
 from_constraints c = from_gates c.before.before.before
 
-abbrev from_resets : tie.After-resets → tie.Start
+abbrev from_resets : tie.After-resets-next → tie.Start
 from_resets c = from_constraints c.before.before.before
 
-abbrev from_steps : tie.After-steps → tie.Start
+abbrev from_steps : tie.After-steps-next → tie.Start
 from_steps c = from_resets c.before.before.before
 
-abbrev from_closing : tie.After-closing → tie.Start
+abbrev from_closing : tie.After-closing-next → tie.Start
 from_closing c = from_steps c.before.before.before
 
-abbrev from_selectors : tie.After-selectors → tie.Start
+abbrev from_selectors : tie.After-selectors-next → tie.Start
 from_selectors c = from_closing c.before.before.before
 
-abbrev from_nodes : tie.After-nodes → tie.Start
+abbrev from_nodes : tie.After-nodes-next → tie.Start
 from_nodes c = from_selectors c.before.before.before
 
 -- ════════ What is written after each item ════════
@@ -61,31 +61,31 @@ room_for_all c = c.requires.1
 abbrev nothing_written : tie.Start → Writing
 nothing_written c = to_write (items c) (room_for_all c)
 
-abbrev truth_written : tie.After-clause1 → Writing
-truth_written c = and_written (nothing_written (from_truth c)) refl c.clause1.ensures
+abbrev truth_written : tie.After-clause1-next → Writing
+truth_written c = and_written (nothing_written (from_truth c)) refl c.clause1-next.ensures
 
-abbrev gates_written : tie.After-gates → Writing
-gates_written c = and_written (truth_written c.before.before.before) refl c.gates.ensures
+abbrev gates_written : tie.After-gates-next → Writing
+gates_written c = and_written (truth_written c.before.before.before) refl c.gates-next.ensures
 
-abbrev constraints_written : tie.After-constraints → Writing
-constraints_written c = and_written (gates_written c.before.before.before) refl c.constraints.ensures
+abbrev constraints_written : tie.After-constraints-next → Writing
+constraints_written c = and_written (gates_written c.before.before.before) refl c.constraints-next.ensures
 
-abbrev resets_written : tie.After-resets → Writing
-resets_written c = and_written (constraints_written c.before.before.before) refl c.resets.ensures
+abbrev resets_written : tie.After-resets-next → Writing
+resets_written c = and_written (constraints_written c.before.before.before) refl c.resets-next.ensures
 
-abbrev steps_written : tie.After-steps → Writing
-steps_written c = and_written (resets_written c.before.before.before) refl c.steps.ensures
+abbrev steps_written : tie.After-steps-next → Writing
+steps_written c = and_written (resets_written c.before.before.before) refl c.steps-next.ensures
 
-abbrev closing_written : tie.After-closing → Writing
-closing_written c = and_written (steps_written c.before.before.before) refl c.closing.ensures
+abbrev closing_written : tie.After-closing-next → Writing
+closing_written c = and_written (steps_written c.before.before.before) refl c.closing-next.ensures
 
-abbrev selectors_written : tie.After-selectors → Writing
+abbrev selectors_written : tie.After-selectors-next → Writing
 selectors_written c =
     let start = from_selectors c in
-    and_written (closing_written c.before.before.before) refl (c.selectors.ensures.wrote (p start) (sized start.pre.0))
+    and_written (closing_written c.before.before.before) refl (c.selectors-next.ensures.wrote (p start) (sized start.requires.0))
 
-abbrev nodes_written : tie.After-nodes → Writing
-nodes_written c = and_written (selectors_written c.before.before.before) refl c.nodes.ensures
+abbrev nodes_written : tie.After-nodes-next → Writing
+nodes_written c = and_written (selectors_written c.before.before.before) refl c.nodes-next.ensures
 
 -- The outline has the number of the problem's nodes.
 as_item : (p : Problem) (n : ℕ) {at r : ℕ} {before after : List ℤ} → length p.nodes ≡ n
@@ -97,37 +97,37 @@ formula_written c =
     let done = c.before.before.before in
     let start = from_nodes done in
     and_written (nodes_written done) refl
-    (as_item (p start) start.args.s.formula_nodes (shows start.args.s start.args.words.now).nodes_are (c.formula.ensures.wrote (p start) (sized start.pre.0)))
+    (as_item (p start) start.args.s.formula_nodes (shows start.args.s start.args.words.now).nodes_are (c.formula.ensures.wrote (p start) (sized start.requires.0)))
 
 -- ════════ The needs ════════
 
-clause1_requires : tie.Need-clause1-requires
+clause1_requires : tie.Need-clause1-next-requires
 unfolding cnf
 clause1_requires c κs = search rules
 
-gates_requires : tie.Need-gates-requires
+gates_requires : tie.Need-gates-next-requires
 gates_requires c κs = (search rules, room_for_next (truth_written c.before.before) refl)
 
-constraints_requires : tie.Need-constraints-requires
+constraints_requires : tie.Need-constraints-next-requires
 constraints_requires c κs = (search rules, room_for_next (gates_written c.before.before) refl)
 
-resets_requires : tie.Need-resets-requires
+resets_requires : tie.Need-resets-next-requires
 resets_requires c κs = (search rules, room_for_next (constraints_written c.before.before) refl)
 
-steps_requires : tie.Need-steps-requires
+steps_requires : tie.Need-steps-next-requires
 steps_requires c κs = (search rules, room_for_next (resets_written c.before.before) refl)
 
-closing_requires : tie.Need-closing-requires
+closing_requires : tie.Need-closing-next-requires
 closing_requires c κs = (search rules, room_for_next (steps_written c.before.before) refl)
 
-selectors_requires : tie.Need-selectors-requires
+selectors_requires : tie.Need-selectors-next-requires
 selectors_requires c κs =
     let done = c.before.before in
     let start = from_closing done in
-    let good = start.pre.0 in
+    let good = start.requires.0 in
     (small good, record { p = p start; sized = sized good; suffices = room_for_next (closing_written done) refl })
 
-nodes_requires : tie.Need-nodes-requires
+nodes_requires : tie.Need-nodes-next-requires
 nodes_requires c κs = (search rules, room_for_next (selectors_written c.before.before) refl)
 
 formula_requires : tie.Need-formula-requires
@@ -136,7 +136,7 @@ formula_requires c κs =
     let good = (from_nodes done).requires.0 in
     (small good, nodes_some good, nodes_within good, (room_for_next (nodes_written done) refl).fits)
 
-same_length : tie.Need-same-length
+same_length : tie.Need-shape_of-room
 same_length c = search rules
 
 returns : tie.Need-returns

@@ -6,19 +6,19 @@ use Rattle.encoder.proofs.MachineLiterals.{word_is, turned_fits, turned_negatabl
 use Rattle.encoder.proofs.forms.and_form.Statement.{statement}
 use Rattle.encoder.proofs.forms.and_form.Tie as tie
 
-sub_or_form : tie.Need-overflow-sub-or-form
+sub_or_form : tie.Need-overflow_sub-x
 sub_or_form c = search (rules, turned_fits)
 
-sub_or_form_2 : tie.Need-overflow-sub-or-form-2
+sub_or_form_2 : tie.Need-overflow_sub-a
 sub_or_form_2 c = search (rules, turned_fits)
 
-sub_or_form_3 : tie.Need-overflow-sub-or-form-3
+sub_or_form_3 : tie.Need-overflow_sub-b
 sub_or_form_3 c = search (rules, turned_fits)
 
-or_form_requires : tie.Need-or-form-requires
+or_form_requires : tie.Need-or_form-requires
 or_form_requires c κs = search (rules, turned_negatable)
 
-same_length : tie.Need-same-length
+same_length : tie.Need-shape_of-room
 same_length c = search rules
 
 returns : tie.Need-returns
@@ -28,7 +28,7 @@ returns c =
     let hx = n.1 in
     let ha = n.2 in
     let hb = n.3 in
-    wrote_by (and_is_dual start.args.x start.args.a start.args.b) (simp (word_is, negation_is) at c.before.or_form.ensures)
+    wrote_by (and_is_dual start.args.x start.args.a start.args.b) (simp (word_is, negation_is) at c.or_form.ensures)
 
 pub and_form_spec : {M : Type 1} → statement M
 and_form_spec =

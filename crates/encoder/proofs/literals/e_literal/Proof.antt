@@ -4,24 +4,24 @@ use Rattle.encoder.proofs.VariableNumbers.{pos_word, pos_negatable}
 use Rattle.encoder.proofs.literals.e_literal.Statement.{statement}
 use Rattle.encoder.proofs.literals.e_literal.Tie as tie
 
-node_variables_requires : tie.Need-node-variables-requires
+node_variables_requires : tie.Need-node_variables-requires
 node_variables_requires c κs = search rules
 
-add_result : tie.Need-overflow-add-result
+add_result : tie.Need-overflow_add-result
 add_result c = search rules
 
-mul_result : tie.Need-overflow-mul-result
+mul_result : tie.Need-overflow_mul-result
 mul_result c = search rules
 
-add_result_2 : tie.Need-overflow-add-result-2
+add_result_2 : tie.Need-overflow_add-result-2
 add_result_2 c = search rules
 
-cast_result : tie.Need-overflow-cast-result
+cast_result : tie.Need-overflow_cast-result
 cast_result c = search rules
 
 returns : tie.Need-returns
 returns c =
-    let nodes = c.before.node_variables.ensures in
+    let nodes = c.node_variables.ensures in
     record {
       is = λ p z. rw (pos_word nodes.1, nodes.0 p z, z.bound_is);
       negatable = pos_negatable nodes.1;

@@ -5,25 +5,25 @@ use Rattle.encoder.proofs.MachineLiterals.{turned_fits, turned_negatable, passes
 use Rattle.encoder.proofs.literals.literal.Statement.{statement}
 use Rattle.encoder.proofs.literals.literal.Tie as tie
 
-circuit_requires : tie.Need-circuit-requires
+circuit_requires : tie.Need-circuit-v-requires
 circuit_requires c κs = search rules
 
-sub_result : tie.Need-overflow-sub-result
+sub_result : tie.Need-overflow_sub-result
 sub_result c = search (rules, turned_fits)
 
-returns : tie.Need-returns
+returns : tie.Need-returns-then-x-eq1
 returns c =
-    let v = c.before.circuit.ensures in
+    let v = c.circuit-v.ensures in
     record {
-      is = λ p z. rw (literal_odd p _ _ c.if1.true) (literal_turned v z);
+      is = λ p z. rw (literal_odd p _ _ c.if-x-eq1.true) (literal_turned v z);
       negatable = turned_negatable v.negatable;
     }
 
-returns_2 : tie.Need-returns-2
+returns_2 : tie.Need-returns-else-x-eq1
 returns_2 c =
-    let v = c.before.circuit.ensures in
+    let v = c.circuit-v.ensures in
     record {
-      is = λ p z. rw (literal_even p _ _ c.if1.false) (literal_passed v z);
+      is = λ p z. rw (literal_even p _ _ c.if-x-eq1.false) (literal_passed v z);
       negatable = passes v.negatable;
     }
 

@@ -7,33 +7,33 @@ use Rattle.encoder.proofs.MachineLiterals.{passes, literal_passed}
 use Rattle.encoder.proofs.literals.p_literal.Statement.{statement}
 use Rattle.encoder.proofs.literals.p_literal.Tie as tie
 
-node_variables_requires : tie.Need-node-variables-requires
+node_variables_requires : tie.Need-node_variables-requires
 node_variables_requires c κs = search rules
 
-add_result : tie.Need-overflow-add-result
+add_result : tie.Need-overflow_add-result
 add_result c = search rules
 
-cast_result : tie.Need-overflow-cast-result
+cast_result : tie.Need-overflow_cast-result
 cast_result c = search rules
 
-e_literal_requires : tie.Need-e-literal-requires
+e_literal_requires : tie.Need-e_literal-requires
 e_literal_requires c κs = search rules
 
-returns : tie.Need-returns
+returns : tie.Need-returns-then-i-s
 returns c =
     let nodes = c.node_variables.ensures in
     let start = c.before.before.before in
     let size : c.node_variables.result + start.args.i < 2 ^ 31 = omega arith in
     record {
-      is = λ p z. rw (pos_word size, nodes.0 p z, p_within z _ _ c.before.if1.true);
+      is = λ p z. rw (pos_word size, nodes.0 p z, p_within z _ _ c.if-i-s.true);
       negatable = pos_negatable size;
     }
 
-returns_2 : tie.Need-returns-2
+returns_2 : tie.Need-returns-else-i-s
 returns_2 c =
-    let e = c.e-literal.ensures in
+    let e = c.e_literal.ensures in
     record {
-      is = λ p z. rw (p_past z _ _ c.before.if1.false) (literal_passed e z);
+      is = λ p z. rw (p_past z _ _ c.if-i-s.false) (literal_passed e z);
       negatable = passes e.negatable;
     }
 

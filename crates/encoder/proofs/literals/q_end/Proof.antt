@@ -35,14 +35,14 @@ of_others (Next a) e = refl
 of_others (Until a b) e = refl
 of_others (Release a b) e = absurd (miss others 5 tt e)
 
-enum_told : tie.Need-enum-told
+enum_told : tie.Need-enum_told-1
 enum_told c = search rules
 
-returns : tie.Need-returns
-returns c = (of_release c.before.before.args.x c.before.match.keys1, omega arith)
+returns : tie.Need-returns-in-Release
+returns c = (of_release c.args.x c.in-Release.in-Release-own.keys1, omega arith)
 
-returns_2 : tie.Need-returns-2
-returns_2 c = (of_others c.before.args.x c.match.keys2, omega arith)
+returns_2 : tie.Need-returns-in_default
+returns_2 c = (of_others c.args.x c.in_default.in_default-own.keys2, omega arith)
 
 pub q_end_spec : {M : Type 1} → statement M
 q_end_spec = tie.close (tie.spec enum_told returns returns_2)

@@ -6,26 +6,26 @@ use Rattle.encoder.proofs.VariableNumbers.{selector_size, pos_word, pos_negatabl
 use Rattle.encoder.proofs.literals.selector.Statement.{statement}
 use Rattle.encoder.proofs.literals.selector.Tie as tie
 
-abbrev start : tie.After-struct-known2 → tie.Start
+abbrev start : tie.After-struct_known-2-1 → tie.Start
 start c = c.before.before
 
-size : (c : tie.After-struct-known2) → ((start c).args.s.bound + 1) * (start c).args.s.width + 2 + (start c).args.l < 2 ^ 31
+size : (c : tie.After-struct_known-2-1) → ((start c).args.s.bound + 1) * (start c).args.s.width + 2 + (start c).args.l < 2 ^ 31
 size c = selector_size (start c).requires.0 _ (start c).requires.1
 
-add_result : tie.Need-overflow-add-result
+add_result : tie.Need-overflow_add-result
 unfolding bound_limit
 add_result c = omega arith
 
-mul_result : tie.Need-overflow-mul-result
+mul_result : tie.Need-overflow_mul-result
 mul_result c = omega (arith, size c)
 
-add_result_2 : tie.Need-overflow-add-result-2
+add_result_2 : tie.Need-overflow_add-result-2
 add_result_2 c = omega (arith, size c)
 
-add_result_3 : tie.Need-overflow-add-result-3
+add_result_3 : tie.Need-overflow_add-result-3
 add_result_3 c = omega (arith, size c)
 
-cast_result : tie.Need-overflow-cast-result
+cast_result : tie.Need-overflow_cast-result
 cast_result c = omega (arith, size c)
 
 returns : tie.Need-returns

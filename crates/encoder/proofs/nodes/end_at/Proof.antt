@@ -11,33 +11,33 @@ use Rattle.encoder.proofs.nodes.end_at.Tie as tie
 
 -- ════════ The points ════════
 
-abbrev start : tie.After-q-end → tie.Start
+abbrev start : tie.After-q_end → tie.Start
 start c = c.before.before.before
 
 -- The end as the code passes it on.
-end_is : (c : tie.After-q-end) → to_z w32 (of_z w32 c.q-end.result) ≡ q_end (node_read (start c).args.node)
-end_is c = passed_as c.q-end.ensures.1 c.q-end.ensures.0
+end_is : (c : tie.After-q_end) → to_z w32 (of_z w32 c.q_end.result) ≡ q_end (node_read (start c).args.node)
+end_is c = passed_as c.q_end.ensures.1 c.q_end.ensures.0
 
 -- ════════ The needs ════════
 
-selector_requires : tie.Need-selector-requires
+selector_requires : tie.Need-selector-on-requires
 selector_requires c κs = search rules
 
-e_literal_requires : tie.Need-e-literal-requires
+e_literal_requires : tie.Need-e_literal-x-requires
 e_literal_requires c κs = search rules
 
-q_end_requires : tie.Need-q-end-requires
+q_end_requires : tie.Need-q_end-requires
 q_end_requires c κs = search rules
 
-q_literal_requires : tie.Need-q-literal-requires
+q_literal_requires : tie.Need-q_literal-a-requires
 q_literal_requires c κs =
     let n = (start c).requires in
-    (n.0, n.1, passes c.q-end.ensures.1)
+    (n.0, n.1, passes c.q_end.ensures.1)
 
-guarded_form_requires : tie.Need-guarded-form-requires
+guarded_form_requires : tie.Need-guarded_form-requires
 guarded_form_requires c κs = search rules
 
-same_length : tie.Need-same-length
+same_length : tie.Need-shape_of-room
 same_length c = search rules
 
 returns : tie.Need-returns
@@ -45,9 +45,9 @@ returns c =
     let a = c.before.before.before in
     let x = a.before.before in
     let on = x.before in
-    let la = rw (end_is a.before) at a.q-literal.ensures in
+    let la = rw (end_is a.before) at a.q_literal-a.ensures in
     record {
-      wrote = λ p z. rw (literal_passed on.selector.ensures z, literal_passed x.e-literal.ensures z, literal_passed la z) at c.before.guarded_form.ensures;
+      wrote = λ p z. rw (literal_passed on.selector-on.ensures z, literal_passed x.e_literal-x.ensures z, literal_passed la z) at c.guarded_form.ensures;
     }
 
 pub end_at_spec : {M : Type 1} → statement M

@@ -22,139 +22,139 @@ child c h = omega (arith, c.requires.0.few)
 
 -- ════════ The needs ════════
 
-enum_known_node : tie.Need-enum-known-node
+enum_known_node : tie.Need-enum_known-node
 enum_known_node c = search rules
 
 literal_requires : tie.Need-literal-requires
 literal_requires c κs =
-    let arm = c.before in
-    let start = arm.before.before in
-    (start.requires.0.small, start.requires.1, rw start.requires.0.sized.width_is at (proper start arm.node.given.1))
+    let arm = c in
+    let start = arm.before in
+    (start.requires.0.small, start.requires.1, rw start.requires.0.sized.width_is at (proper start arm.in-Atom.is))
 
-enum_known_node_2 : tie.Need-enum-known-node-2
+enum_known_node_2 : tie.Need-enum_known-node-in-Both-1
 enum_known_node_2 c = search rules
 
-p_literal_requires : tie.Need-p-literal-requires
+p_literal_requires : tie.Need-p_literal-requires
 p_literal_requires c κs =
-    let arm = c.before in
-    let start = arm.before.before in
-    (start.requires.0.small, child start (proper start arm.node2.given.1).0)
+    let arm = c in
+    let start = arm.before in
+    (start.requires.0.small, child start (proper start arm.in-Both.is).0)
 
-p_literal_requires_2 : tie.Need-p-literal-requires-2
+p_literal_requires_2 : tie.Need-p_literal-requires-in-Both
 p_literal_requires_2 c κs =
-    let arm = c.before.before in
-    let start = arm.before.before in
-    (start.requires.0.small, child start (proper start arm.node2.given.1).1)
+    let arm = c.before in
+    let start = arm.before in
+    (start.requires.0.small, child start (proper start arm.in-Both.is).1)
 
-enum_known_node_3 : tie.Need-enum-known-node-3
+enum_known_node_3 : tie.Need-enum_known-node-in-Either-1
 enum_known_node_3 c = search rules
 
-p_literal_requires_3 : tie.Need-p-literal-requires-3
+p_literal_requires_3 : tie.Need-p_literal-requires-in-Either
 p_literal_requires_3 c κs =
-    let arm = c.before in
-    let start = arm.before.before in
-    (start.requires.0.small, child start (proper start arm.node3.given.1).0)
+    let arm = c in
+    let start = arm.before in
+    (start.requires.0.small, child start (proper start arm.in-Either.is).0)
 
-p_literal_requires_4 : tie.Need-p-literal-requires-4
+p_literal_requires_4 : tie.Need-p_literal-requires-in-Either-2
 p_literal_requires_4 c κs =
-    let arm = c.before.before in
-    let start = arm.before.before in
-    (start.requires.0.small, child start (proper start arm.node3.given.1).1)
+    let arm = c.before in
+    let start = arm.before in
+    (start.requires.0.small, child start (proper start arm.in-Either.is).1)
 
-enum_known_node_4 : tie.Need-enum-known-node-4
+enum_known_node_4 : tie.Need-enum_known-node-in-Next-1
 enum_known_node_4 c = search rules
 
-add_p_literal : tie.Need-overflow-add-p-literal
+add_p_literal : tie.Need-overflow_add-i
 unfolding bound_limit
 add_p_literal c =
-    let start = c.before.before.before in
+    let start = c.before in
     omega (arith, start.requires.0.small.bound_within)
 
-p_literal_requires_5 : tie.Need-p-literal-requires-5
+p_literal_requires_5 : tie.Need-p_literal-requires-in-Next
 p_literal_requires_5 c κs =
-    let arm = c.before in
-    let start = arm.before.before in
-    (start.requires.0.small, child start (proper start arm.node4.given.1))
+    let arm = c in
+    let start = arm.before in
+    (start.requires.0.small, child start (proper start arm.in-Next.is))
 
-enum_known_node_5 : tie.Need-enum-known-node-5
+enum_known_node_5 : tie.Need-enum_known-node-in-Until-1
 enum_known_node_5 c = search rules
 
-left_literal_requires : tie.Need-left-literal-requires
+left_literal_requires : tie.Need-left_literal-requires
 left_literal_requires c κs =
-    let arm = c.before in
-    let start = arm.before.before in
-    (start.requires.0.small, left_below (left_of arm.node5.given.0.0) start.requires.0.few (proper start arm.node5.given.1).0)
+    let arm = c in
+    let start = arm.before in
+    (start.requires.0.small, left_below (left_of arm.in-Until.a) start.requires.0.few (proper start arm.in-Until.is).0)
 
-p_literal_requires_6 : tie.Need-p-literal-requires-6
+p_literal_requires_6 : tie.Need-p_literal-requires-in-Until
 p_literal_requires_6 c κs =
-    let arm = c.before.before in
-    let start = arm.before.before in
-    (start.requires.0.small, child start (proper start arm.node5.given.1).1)
+    let arm = c.before in
+    let start = arm.before in
+    (start.requires.0.small, child start (proper start arm.in-Until.is).1)
 
-enum_known_node_6 : tie.Need-enum-known-node-6
+enum_known_node_6 : tie.Need-enum_known-node-in-Release-1
 enum_known_node_6 c = search rules
 
-left_literal_requires_2 : tie.Need-left-literal-requires-2
+left_literal_requires_2 : tie.Need-left_literal-requires-in-Release
 left_literal_requires_2 c κs =
-    let arm = c.before in
-    let start = arm.before.before in
-    (start.requires.0.small, left_below (left_of arm.node6.given.0.0) start.requires.0.few (proper start arm.node6.given.1).0)
+    let arm = c in
+    let start = arm.before in
+    (start.requires.0.small, left_below (left_of arm.in-Release.a) start.requires.0.few (proper start arm.in-Release.is).0)
 
-p_literal_requires_7 : tie.Need-p-literal-requires-7
+p_literal_requires_7 : tie.Need-p_literal-requires-in-Release
 p_literal_requires_7 c κs =
-    let arm = c.before.before in
-    let start = arm.before.before in
-    (start.requires.0.small, child start (proper start arm.node6.given.1).1)
+    let arm = c.before in
+    let start = arm.before in
+    (start.requires.0.small, child start (proper start arm.in-Release.is).1)
 
-returns : tie.Need-returns
+returns : tie.Need-returns-in-Atom
 returns c =
-    let arm = c.before.before in
+    let arm = c.before in
     let a = c.literal.ensures in
-    record { is = λ p z x y. rw (arm.node.given.1, literal_passed a z); negatable = passes a.negatable }
+    record { is = λ p z x y. rw (arm.in-Atom.is, literal_passed a z); negatable = passes a.negatable }
 
-returns_2 : tie.Need-returns-2
+returns_2 : tie.Need-returns-in-Both
 returns_2 c =
-    let arm = c.before.before.before in
-    let a = c.before.p-literal.ensures in
-    let b = c.p-literal2.ensures in
-    record {
-      is = λ p z x y. rw (arm.node2.given.1, literal_passed a z, literal_passed b z);
-      negatable = (passes a.negatable, passes b.negatable);
-    }
-
-returns_3 : tie.Need-returns-3
-returns_3 c =
-    let arm = c.before.before.before in
-    let a = c.before.p-literal3.ensures in
-    let b = c.p-literal4.ensures in
-    record {
-      is = λ p z x y. rw (arm.node3.given.1, literal_passed a z, literal_passed b z);
-      negatable = (passes a.negatable, passes b.negatable);
-    }
-
-returns_4 : tie.Need-returns-4
-returns_4 c =
     let arm = c.before.before in
-    let a = c.p-literal5.ensures in
-    record { is = λ p z x y. rw (arm.node4.given.1, literal_passed a z); negatable = passes a.negatable }
-
-returns_5 : tie.Need-returns-5
-returns_5 c =
-    let arm = c.before.before.before in
-    let a = c.before.left-literal.ensures in
-    let b = c.p-literal6.ensures in
+    let a = c.p_literal.ensures in
+    let b = c.p_literal-in-Both.ensures in
     record {
-      is = λ p z x y. rw (arm.node5.given.1, literal_passed a z, literal_passed b z);
+      is = λ p z x y. rw (arm.in-Both.is, literal_passed a z, literal_passed b z);
       negatable = (passes a.negatable, passes b.negatable);
     }
 
-returns_6 : tie.Need-returns-6
-returns_6 c =
-    let arm = c.before.before.before in
-    let a = c.before.left-literal2.ensures in
-    let b = c.p-literal7.ensures in
+returns_3 : tie.Need-returns-in-Either
+returns_3 c =
+    let arm = c.before.before in
+    let a = c.p_literal-in-Either.ensures in
+    let b = c.p_literal-in-Either-2.ensures in
     record {
-      is = λ p z x y. rw (arm.node6.given.1, literal_passed a z, literal_passed b z);
+      is = λ p z x y. rw (arm.in-Either.is, literal_passed a z, literal_passed b z);
+      negatable = (passes a.negatable, passes b.negatable);
+    }
+
+returns_4 : tie.Need-returns-in-Next
+returns_4 c =
+    let arm = c.before in
+    let a = c.p_literal-in-Next.ensures in
+    record { is = λ p z x y. rw (arm.in-Next.is, literal_passed a z); negatable = passes a.negatable }
+
+returns_5 : tie.Need-returns-in-Until
+returns_5 c =
+    let arm = c.before.before in
+    let a = c.left_literal.ensures in
+    let b = c.p_literal-in-Until.ensures in
+    record {
+      is = λ p z x y. rw (arm.in-Until.is, literal_passed a z, literal_passed b z);
+      negatable = (passes a.negatable, passes b.negatable);
+    }
+
+returns_6 : tie.Need-returns-in-Release
+returns_6 c =
+    let arm = c.before.before in
+    let a = c.left_literal-in-Release.ensures in
+    let b = c.p_literal-in-Release.ensures in
+    record {
+      is = λ p z x y. rw (arm.in-Release.is, literal_passed a z, literal_passed b z);
       negatable = (passes a.negatable, passes b.negatable);
     }
 

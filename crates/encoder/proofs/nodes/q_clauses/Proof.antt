@@ -25,22 +25,22 @@ use Rattle.encoder.proofs.nodes.q_clauses.Tie as tie
 
 -- ════════ The points ════════
 
-abbrev start : tie.After-q-literal2 → tie.Start
+abbrev start : tie.After-q_literal-y → tie.Start
 start c = c.before.before.before
 
-abbrev node : tie.After-q-literal2 → problems.Node
+abbrev node : tie.After-q_literal-y → problems.Node
 node c = node_read (start c).args.node
 
 -- Q(n,i) as the code passes it on, and the y after it.
-module _ (c : tie.After-q-literal2) {p : Problem} (z : Sized (start c).args.s p) where
-  end_is : to_z w32 (of_z w32 c.before.before.q-end.result) ≡ q_end (node c)
-  end_is = passed_as c.before.before.q-end.ensures.1 c.before.before.q-end.ensures.0
+module _ (c : tie.After-q_literal-y) {p : Problem} (z : Sized (start c).args.s p) where
+  end_is : to_z w32 (of_z w32 c.q_end-end.result) ≡ q_end (node c)
+  end_is = passed_as c.q_end-end.ensures.1 c.q_end-end.ensures.0
 
-  x_is : to_z w32 (of_z w32 c.before.q-literal.result) ≡ q_at p (start c).args.n (node c) (start c).args.i
-  x_is = literal_passed c.before.q-literal.ensures z ∙ rw end_is
+  x_is : to_z w32 (of_z w32 c.q_literal-x.result) ≡ q_at p (start c).args.n (node c) (start c).args.i
+  x_is = literal_passed c.q_literal-x.ensures z ∙ rw end_is
 
-  y_is : to_z w32 (of_z w32 c.q-literal2.result) ≡ q_at p (start c).args.n (node c) ((start c).args.i + 1)
-  y_is = literal_passed c.q-literal2.ensures z ∙ rw end_is
+  y_is : to_z w32 (of_z w32 c.q_literal-y.result) ≡ q_at p (start c).args.n (node c) ((start c).args.i + 1)
+  y_is = literal_passed c.q_literal-y.ensures z ∙ rw end_is
 
 -- ════════ The two kinds of nodes ════════
 
@@ -68,7 +68,7 @@ module _ (p : Problem) (n i : ℕ) where
   is_p (Until a b) e = absurd (miss others 4 tt e)
   is_p (Release a b) e = absurd (miss others 5 tt e)
 
-module _ (c : tie.After-q-literal2) where
+module _ (c : tie.After-q_literal-y) where
   of_untils : OneOf untils (tag_of the_type (start c).args.node) → {p : Problem} → Sized (start c).args.s p
       → q_clauses p (start c).args.n (node c) (start c).args.i
       ≡ form_over (start c).args.f (q_at p (start c).args.n (node c) (start c).args.i) (q_at p (start c).args.n (node c) ((start c).args.i + 1))
@@ -81,22 +81,22 @@ module _ (c : tie.After-q-literal2) where
 
 -- ════════ The needs ════════
 
-q_end_requires : tie.Need-q-end-requires
+q_end_requires : tie.Need-q_end-end-requires
 q_end_requires c κs = search rules
 
-q_literal_requires : tie.Need-q-literal-requires
+q_literal_requires : tie.Need-q_literal-x-requires
 q_literal_requires c κs =
-    let n = c.before.requires in
-    (n.0, n.1, passes c.q-end.ensures.1)
+    let n = c.requires in
+    (n.0, n.1, passes c.q_end-end.ensures.1)
 
-add_q_literal : tie.Need-overflow-add-q-literal
+add_q_literal : tie.Need-overflow_add-i
 unfolding bound_limit
-add_q_literal c = omega (arith, c.before.before.requires.0.bound_within)
+add_q_literal c = omega (arith, c.requires.0.bound_within)
 
-q_literal_requires_2 : tie.Need-q-literal-requires-2
+q_literal_requires_2 : tie.Need-q_literal-y-requires
 q_literal_requires_2 c κs =
-    let n = c.before.before.requires in
-    (n.0, n.1, passes c.before.q-end.ensures.1)
+    let n = c.requires in
+    (n.0, n.1, passes c.q_end-end.ensures.1)
 
 form_requires : tie.Need-form-requires
 form_requires c κs =
@@ -105,40 +105,40 @@ form_requires c κs =
     let n = (start made).requires in
     let room = n.4 in (
       n.3.negatable,
-      passes made.before.q-literal.ensures.negatable,
-      passes made.q-literal2.ensures.negatable,
-      rw (x_is made room.sized, y_is made room.sized) (rw (of_untils made known.match.keys1 room.sized) at room.suffices),
+      passes made.q_literal-x.ensures.negatable,
+      passes made.q_literal-y.ensures.negatable,
+      rw (x_is made room.sized, y_is made room.sized) (rw (of_untils made known.in-Until.in-Until-own.keys1 room.sized) at room.suffices),
     )
 
-p_literal_requires : tie.Need-p-literal-requires
+p_literal_requires : tie.Need-p_literal-requires
 p_literal_requires c κs = search rules
 
-equal_form_requires : tie.Need-equal-form-requires
+equal_form_requires : tie.Need-equal_form-requires
 equal_form_requires c κs =
     let known = c.before.before in
     let given = (start known.before).requires.4 in
-    let room = rw (of_others known.before given.p known.match.keys2) at given.suffices.fits in
+    let room = rw (of_others known.before given.p known.in_default.in_default-own.keys2) at given.suffices.fits in
     search rules
 
-same_length : tie.Need-same-length
+same_length : tie.Need-shape_of-room-in-Until
 same_length c = search rules
 
-returns : tie.Need-returns
+returns : tie.Need-returns-in-Until
 returns c =
     let known = c.before.before.before in
     let made = known.before in
-    record { wrote = λ p z. rw (of_untils made known.match.keys1 z) (rw (x_is made z, y_is made z) at c.before.form.ensures) }
+    record { wrote = λ p z. rw (of_untils made known.in-Until.in-Until-own.keys1 z) (rw (x_is made z, y_is made z) at c.form.ensures) }
 
-same_length_2 : tie.Need-same-length-2
+same_length_2 : tie.Need-shape_of-room-in_default
 same_length_2 c = search rules
 
-returns_2 : tie.Need-returns-2
+returns_2 : tie.Need-returns-in_default
 returns_2 c =
     let known = c.before.before.before.before in
     let made = known.before in
     record {
-      wrote = λ p z. rw (of_others made p known.match.keys2)
-          (rw (x_is made z, literal_passed c.before.before.p-literal.ensures z) at c.before.equal_form.ensures);
+      wrote = λ p z. rw (of_others made p known.in_default.in_default-own.keys2)
+          (rw (x_is made z, literal_passed c.p_literal.ensures z) at c.equal_form.ensures);
     }
 
 pub q_clauses_spec : {M : Type 1} → statement M

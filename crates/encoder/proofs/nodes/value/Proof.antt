@@ -17,32 +17,32 @@ use Rattle.encoder.proofs.nodes.value.Tie as tie
 
 -- ════════ The points ════════
 
-abbrev start : tie.After-form-at → tie.Start
+abbrev start : tie.After-form_at-f → tie.Start
 start c = c.before
 
-abbrev made : tie.After-p-clauses → tie.After-form-at
+abbrev made : tie.After-p_clauses-next → tie.After-form_at-f
 made c = c.before.before
 
 -- The two parts, P by its form.
-abbrev of_p : tie.After-form-at → Problem → List Clause
-of_p c p = form_over c.form-at.result (P p (start c).args.n (start c).args.i) (P p (start c).args.n ((start c).args.i + 1))
+abbrev of_p : tie.After-form_at-f → Problem → List Clause
+of_p c p = form_over c.form_at-f.result (P p (start c).args.n (start c).args.i) (P p (start c).args.n ((start c).args.i + 1))
 
-abbrev of_q : tie.After-form-at → Problem → List Clause
+abbrev of_q : tie.After-form_at-f → Problem → List Clause
 of_q c p = q_clauses p (start c).args.n (node_read (start c).args.node) (start c).args.i
 
-parts : (c : tie.After-form-at) (p : Problem) → Sized (start c).args.s p
+parts : (c : tie.After-form_at-f) (p : Problem) → Sized (start c).args.s p
     → value_clauses p (start c).args.n (node_read (start c).args.node) (start c).args.i ≡ of_p c p ++ of_q c p
-parts c p z = ap (λ cs. cs ++ of_q c p) (p_has_form p (start c).args.n (start c).args.i (node_read (start c).args.node) ∙ sym (c.form-at.ensures.is p z _ _))
+parts c p z = ap (λ cs. cs ++ of_q c p) (p_has_form p (start c).args.n (start c).args.i (node_read (start c).args.node) ∙ sym (c.form_at-f.ensures.is p z _ _))
 
-room : (c : tie.After-form-at) → Room (start c).args.at (of_p c (start c).requires.3.p ++ of_q c (start c).requires.3.p) (start c).args.room.now
+room : (c : tie.After-form_at-f) → Room (start c).args.at (of_p c (start c).requires.3.p ++ of_q c (start c).requires.3.p) (start c).args.room.now
 room c = rw (parts c (start c).requires.3.p (start c).requires.3.sized) at (start c).requires.3.suffices
 
 -- ════════ The needs ════════
 
-form_at_requires : tie.Need-form-at-requires
+form_at_requires : tie.Need-form_at-f-requires
 form_at_requires c κs = search rules
 
-p_clauses_requires : tie.Need-p-clauses-requires
+p_clauses_requires : tie.Need-p_clauses-next-requires
 p_clauses_requires c κs =
     let f = c.before in
     let n = (start f).requires in
@@ -50,28 +50,28 @@ p_clauses_requires c κs =
       n.0.small,
       n.1,
       n.2,
-      f.form-at.ensures.negatable,
+      f.form_at-f.ensures.negatable,
       record { p = given.p; sized = given.sized; suffices = room_first (of_p f given.p) (of_q f given.p) (room f) },
     )
 
-q_clauses_requires : tie.Need-q-clauses-requires
+q_clauses_requires : tie.Need-q_clauses-requires
 q_clauses_requires c κs =
     let first = c.before.before in
     let f = made first in
-    let n = (start f).pre in
+    let n = (start f).requires in
     let given = n.3 in (
       n.0.small,
       n.1,
       n.2,
-      f.form-at.ensures,
+      f.form_at-f.ensures,
       record {
         p = given.p;
         sized = given.sized;
-        suffices = room_second (of_p f given.p) (of_q f given.p) (first.p-clauses.ensures.wrote given.p given.sized) (room f);
+        suffices = room_second (of_p f given.p) (of_q f given.p) (first.p_clauses-next.ensures.wrote given.p given.sized) (room f);
       },
     )
 
-same_length : tie.Need-same-length
+same_length : tie.Need-shape_of-room
 same_length c = search rules
 
 returns : tie.Need-returns
@@ -80,7 +80,7 @@ returns c =
     let f = made first in
     record {
       wrote = λ p z. rw (parts f p z)
-          (clauses_then (of_p f p) (of_q f p) (first.p-clauses.ensures.wrote p z) (c.before.q-clauses.ensures.wrote p z));
+          (clauses_then (of_p f p) (of_q f p) (first.p_clauses-next.ensures.wrote p z) (c.q_clauses.ensures.wrote p z));
     }
 
 pub value_spec : {M : Type 1} → statement M

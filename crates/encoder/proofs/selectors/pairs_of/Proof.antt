@@ -10,65 +10,65 @@ use Rattle.encoder.proofs.ForEachNumber.{from_0, ClausesFor, for_none, for_lengt
 use Rattle.encoder.proofs.selectors.pairs_of.Statement.{statement}
 use Rattle.encoder.proofs.selectors.pairs_of.Tie as tie
 
-abbrev invariant_loop : tie.invariant_loop
+abbrev invariant_loop : tie.invariant-loop-i
 invariant_loop s room₀ at l next₀ i₀ room next i =
     ClausesFor s (λ p k. excluded_pair (selector p l) (selector p (l + 1 + k))) (λ p. p.bound - l) at room₀ room i next
 
-abbrev decreases_loop : tie.decreases_loop
+abbrev decreases_loop : tie.decreases-loop-i
 decreases_loop s room₀ at l next₀ i₀ room next i = s.bound - l - i
 
 -- ════════ The points ════════
 
 -- The state before a turn, and the function's start.
-abbrev head : tie.Then1 invariant_loop decreases_loop → tie.At-loop invariant_loop decreases_loop
+abbrev head : tie.In-loop-i invariant_loop decreases_loop → tie.At-loop-i invariant_loop decreases_loop
 head turn = turn.before.before
 
-abbrev start : tie.At-loop invariant_loop decreases_loop → tie.Start invariant_loop decreases_loop
+abbrev start : tie.At-loop-i invariant_loop decreases_loop → tie.Start invariant_loop decreases_loop
 start head = head.before
 
-below : (turn : tie.Then1 invariant_loop decreases_loop) (p : Problem) → Sized (start (head turn)).args.s p
-    → (head turn).loop.i < p.bound - (start (head turn)).args.l
-below turn p z = rw z.bound_is turn.if1.true
+below : (turn : tie.In-loop-i invariant_loop decreases_loop) (p : Problem) → Sized (start (head turn)).args.s p
+    → (head turn).loop-i.i < p.bound - (start (head turn)).args.l
+below turn p z = rw z.bound_is turn.loop-i-test.true
 
 -- ════════ The needs ════════
 
-loop_holds : tie.Need-loop-init invariant_loop decreases_loop
+loop_holds : tie.Need-loop-i-init invariant_loop decreases_loop
 loop_holds c =
     let room = c.requires.2 in
     for_none (record { p = room.p; sized = room.sized; suffices = rw from_0 at room.suffices })
 
-sub_if1 : tie.Need-overflow-sub-if1 invariant_loop decreases_loop
+sub_if1 : tie.Need-overflow_sub-s invariant_loop decreases_loop
 sub_if1 c = search rules
 
-add_pair : tie.Need-overflow-add-pair invariant_loop decreases_loop
+add_pair : tie.Need-overflow_add-l invariant_loop decreases_loop
 add_pair c = search rules
 
-add_pair_2 : tie.Need-overflow-add-pair-2 invariant_loop decreases_loop
+add_pair_2 : tie.Need-overflow_add-l-in-loop-i invariant_loop decreases_loop
 add_pair_2 c = search rules
 
-pair_requires : tie.Need-pair-requires invariant_loop decreases_loop
+pair_requires : tie.Need-pair-next-requires invariant_loop decreases_loop
 pair_requires c κs =
     let turn = c.before in
-    let n = (start (head turn)).pre in
-    (n.0, omega arith, omega arith, (for_room (head turn).loop.invariant (below turn)).suffices.fits)
+    let n = (start (head turn)).requires in
+    (n.0, omega arith, omega arith, (for_room (head turn).loop-i.invariant (below turn)).suffices.fits)
 
-add_i : tie.Need-overflow-add-i invariant_loop decreases_loop
+add_i : tie.Need-overflow_add-i invariant_loop decreases_loop
 add_i c = search rules
 
-loop_less : tie.Need-loop-smaller invariant_loop decreases_loop
+loop_less : tie.Need-loop-i-smaller invariant_loop decreases_loop
 loop_less c = omega arith
 
-loop_again : tie.Need-loop-preserved invariant_loop decreases_loop
+loop_again : tie.Need-loop-i-preserved invariant_loop decreases_loop
 loop_again c =
     let turn = c.before.before.before in
-    for_more (head turn).loop.invariant (below turn) c.before.pair.ensures
+    for_more (head turn).loop-i.invariant (below turn) c.pair-next.ensures
 
-same_length : tie.Need-same-length invariant_loop decreases_loop
-same_length c = for_length c.before.before.loop.invariant
+same_length : tie.Need-shape_of-room invariant_loop decreases_loop
+same_length c = for_length c.loop-i.invariant
 
 returns : tie.Need-returns invariant_loop decreases_loop
 returns c =
-    let all = for_all c.before.before.loop.invariant (λ p z. rw z.bound_is c.if1.false) in
+    let all = for_all c.loop-i.invariant (λ p z. rw z.bound_is c.loop-i-test.false) in
     record { wrote = λ p z. rw from_0 (all.wrote p z) }
 
 pub pairs_of_spec : {M : Type 1} → statement M

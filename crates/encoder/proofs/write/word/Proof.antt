@@ -5,16 +5,16 @@ use Rattle.encoder.proofs.OneAfterAnother.{wrote_word}
 use Rattle.encoder.proofs.write.word.Statement.{statement}
 use Rattle.encoder.proofs.write.word.Tie as tie
 
-mul_w : tie.Need-overflow-mul-w
+mul_w : tie.Need-offset_bounds-room-at
 mul_w c = search rules
 
-slice_set_from_w : tie.Need-slice-set-from-w
+slice_set_from_w : tie.Need-bounds-room-at
 slice_set_from_w c = search rules
 
-add_result : tie.Need-overflow-add-result
+add_result : tie.Need-overflow_add-result
 add_result c = search rules
 
-same_length : tie.Need-same-length
+same_length : tie.Need-shape_of-room
 same_length c = search rules
 
 returns : tie.Need-returns

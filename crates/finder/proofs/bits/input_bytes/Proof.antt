@@ -7,16 +7,16 @@ use Rattle.answers.specs.Limits.{inputs_limit, bound_limit}
 use Rattle.finder.proofs.bits.input_bytes.Statement.{statement}
 use Rattle.finder.proofs.bits.input_bytes.Tie as tie
 
-cast_result : tie.Need-overflow-cast-result
+cast_result : tie.Need-overflow_cast-result
 cast_result c = search rules
 
-cast_result_2 : tie.Need-overflow-cast-result-2
+cast_result_2 : tie.Need-overflow_cast-result-2
 cast_result_2 c = search rules
 
-add_result : tie.Need-overflow-add-result
+add_result : tie.Need-overflow_add-result
 add_result c = search rules
 
-mul_result : tie.Need-overflow-mul-result
+mul_result : tie.Need-overflow_mul-result
 unfolding inputs_limit bound_limit
 mul_result c =
     let start = c.before.before in

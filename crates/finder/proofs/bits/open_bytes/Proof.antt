@@ -56,67 +56,67 @@ counted_fits p good i =
     let positions : p.bound + 1 ≤ bound_limit + 1 = omega (arith, good.bound_within) in
     omega (arith, good.latches_within, those_few is_free (take i p.latches), length-take i p.latches, mul-le-mul good.inputs_within positions)
 
-abbrev invariant_loop : tie.invariant_loop
+abbrev invariant_loop : tie.invariant-loop-i
 invariant_loop words s bits₀ i₀ bits i = (i ≤ s.latches) × (bits ≡ counted (problem_in s words) i)
 
-abbrev decreases_loop : tie.decreases_loop
+abbrev decreases_loop : tie.decreases-loop-i
 decreases_loop words s bits₀ i₀ bits i = s.latches - i
 
 -- ════════ The points ════════
 
 -- The state before a turn, and the function's start.
-abbrev turn : tie.After-latch-reset invariant_loop decreases_loop → tie.At-loop invariant_loop decreases_loop
+abbrev turn : tie.After-latch_reset invariant_loop decreases_loop → tie.At-loop-i invariant_loop decreases_loop
 turn reset = reset.before.before.before
 
-abbrev start : tie.At-loop invariant_loop decreases_loop → tie.Start invariant_loop decreases_loop
+abbrev start : tie.At-loop-i invariant_loop decreases_loop → tie.Start invariant_loop decreases_loop
 start t = t.before.before.before
 
-abbrev shown : tie.At-loop invariant_loop decreases_loop → Problem
+abbrev shown : tie.At-loop-i invariant_loop decreases_loop → Problem
 shown t = problem_in (start t).args.s (start t).args.words.now
 
 -- ════════ The needs ════════
 
-input_bytes_requires : tie.Need-input-bytes-requires invariant_loop decreases_loop
+input_bytes_requires : tie.Need-input_bytes-bits-requires invariant_loop decreases_loop
 input_bytes_requires c κs =
-    let good = c.before.requires in
+    let good = c.requires in
     (rw (shows _ _).inputs_are at good.proper.inputs_within, bound_small good)
 
-loop_holds : tie.Need-loop-init invariant_loop decreases_loop
+loop_holds : tie.Need-loop-i-init invariant_loop decreases_loop
 loop_holds c =
     let start = c.before.before in
-    (omega arith, c.input_bytes.ensures ∙ none_counted (shows start.args.s start.args.words.now))
+    (omega arith, c.input_bytes-bits.ensures ∙ none_counted (shows start.args.s start.args.words.now))
 
-latch_reset_requires : tie.Need-latch-reset-requires invariant_loop decreases_loop
+latch_reset_requires : tie.Need-latch_reset-requires invariant_loop decreases_loop
 latch_reset_requires c κs = tt
 
-add_bits : tie.Need-overflow-add-bits invariant_loop decreases_loop
+add_bits : tie.Need-overflow_add-bits invariant_loop decreases_loop
 add_bits c =
     let t = turn c.before in
-    omega (arith, t.loop.inv.1, counted_fits (shown t) (start t).pre.proper t.loop.i)
+    omega (arith, t.loop-i.invariant.1, counted_fits (shown t) (start t).requires.proper t.loop-i.i)
 
-add_i : tie.Need-overflow-add-i invariant_loop decreases_loop
+add_i : tie.Need-overflow_add-i invariant_loop decreases_loop
 add_i c = search rules
 
-loop_less : tie.Need-loop-smaller invariant_loop decreases_loop
+loop_less : tie.Need-loop-i-smaller invariant_loop decreases_loop
 loop_less c = omega arith
 
-loop_again : tie.Need-loop-preserved invariant_loop decreases_loop
+loop_again : tie.Need-loop-i-preserved invariant_loop decreases_loop
 loop_again c =
     let reset = c.before in
     let t = turn reset in
     let p = shown t in
-    let below : t.loop.i < length p.latches = rw (shows _ _).latches_are reset.before.if1.true in (
+    let below : t.loop-i.i < length p.latches = rw (shows _ _).latches_are reset.loop-i-test.true in (
       omega arith,
       ⊎_elim
-          (λ w. w.1 ∙ free_more p t.loop.i below t.loop.inv.1 reset.latch-reset.ensures w.0.taken)
-          (λ w. w.1 ∙ fixed_more p t.loop.i below t.loop.inv.1 reset.latch-reset.ensures w.0.left)
-          c.if2.branch,
+          (λ w. w.1 ∙ free_more p t.loop-i.i below t.loop-i.invariant.1 reset.latch_reset.ensures w.0.true)
+          (λ w. w.1 ∙ fixed_more p t.loop-i.i below t.loop-i.invariant.1 reset.latch_reset.ensures w.0.false)
+          c.if-latch_reset-eq-FREE.branch,
     )
 
 returns : tie.Need-returns invariant_loop decreases_loop
 returns c =
     let t = c.before.before in
-    counted_all (shown t) t.loop.i (rw (shows _ _).latches_are c.if1.false) t.loop.invariant.1
+    counted_all (shown t) t.loop-i.i (rw (shows _ _).latches_are c.loop-i-test.false) t.loop-i.invariant.1
 
 pub open_bytes_spec : {M : Type 1} → statement M
 open_bytes_spec =

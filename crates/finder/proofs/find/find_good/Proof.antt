@@ -15,7 +15,7 @@ use Rattle.finder.proofs.find.find_good.Tie as tie
 
 -- ════════ The points ════════
 
-abbrev start : tie.After-open-bytes → tie.Start
+abbrev start : tie.After-open_bytes-bits → tie.Start
 start c = c.before.before.before
 
 abbrev problem_at : tie.Start → Problem
@@ -24,10 +24,10 @@ problem_at c = problem_in c.args.s c.args.words.now
 sizes : (c : tie.Start) → Shows c.args.s (problem_at c)
 sizes c = shows c.args.s c.args.words.now
 
-abbrev counted : tie.After-witness-length → tie.After-open-bytes
+abbrev counted : tie.After-witness_length-needed → tie.After-open_bytes-bits
 counted c = c.before.before
 
-abbrev sized : tie.After-slice-known2 → tie.After-witness-length
+abbrev sized : tie.After-slice_known-2-1 → tie.After-witness_length-needed
 sized c = c.before.before.before.before.before
 
 limits : (c : tie.Start) → (c.args.s.inputs ≤ inputs_limit) × (c.args.s.latches ≤ latches_limit) × (c.args.s.bound ≤ bound_limit)
@@ -37,48 +37,48 @@ limits c =
     (omega (arith, z.inputs_are, proper.inputs_within), omega (arith, z.latches_are, proper.latches_within), bound_small c.requires)
 
 -- The bytes needed are the witness's.
-needed_is : (c : tie.After-witness-length) → c.witness_length.result ≡ witness_length (problem_at (start (counted c)))
+needed_is : (c : tie.After-witness_length-needed) → c.witness_length-needed.result ≡ witness_length (problem_at (start (counted c)))
 needed_is c =
     let s = start (counted c) in
     let l = limits s in
-    c.witness_length.ensures ∙ length_is s.args.s l.0 l.1 l.2 s.args.words.now
+    c.witness_length-needed.ensures ∙ length_is s.args.s l.0 l.1 l.2 s.args.words.now
 
 -- Few bytes are open where 17 passes.
-few : (c : tie.After-witness-length) → (counted c).open_bytes.result ≤ search_limit
+few : (c : tie.After-witness_length-needed) → (counted c).open_bytes-bits.result ≤ search_limit
 unfolding search_limit
-few c = c.before.if1.false
+few c = c.if-bits-gt-SEARCH_LIMIT.false
 
 -- ════════ The needs ════════
 
-open_bytes_requires : tie.Need-open-bytes-requires
+open_bytes_requires : tie.Need-open_bytes-bits-requires
 open_bytes_requires c κs = search rules
 
-returns : tie.Need-returns
+returns : tie.Need-returns-then-bits-gt-SEARCH_LIMIT
 unfolding search_limit
-returns c = too_much (problem_at (start c.before)) c.before.open_bytes.ensures c.if1.true
+returns c = too_much (problem_at (start c.before)) c.open_bytes-bits.ensures c.if-bits-gt-SEARCH_LIMIT.true
 
-witness_length_requires : tie.Need-witness-length-requires
+witness_length_requires : tie.Need-witness_length-needed-requires
 witness_length_requires c κs = search rules
 
-returns_2 : tie.Need-returns-2
+returns_2 : tie.Need-returns-then-room-needed
 returns_2 c =
     let at = c.before in
-    too_small (problem_at (start (counted at))) (counted at).open_bytes.ensures (few at) (needed_is at) c.if2.true
+    too_small (problem_at (start (counted at))) (counted at).open_bytes-bits.ensures (few at) (needed_is at) c.if-room-needed.true
 
 found_requires : tie.Need-found-requires
 found_requires c κs =
     let at = c.before.before in
-    ((start (counted at)).requires, (counted at).open_bytes.ensures, few at, needed_is at, c.before.if2.false)
+    ((start (counted at)).requires, (counted at).open_bytes-bits.ensures, few at, needed_is at, c.if-room-needed.false)
 
-same_length : tie.Need-same-length
+same_length : tie.Need-shape_of-room
 same_length c = search rules
 
-returns_3 : tie.Need-returns-3
+returns_3 : tie.Need-returns
 returns_3 c =
     let at = sized c in
-    let found = c.before.before.found in
-    let fits = c.before.before.before.before.if2.false in
-    searched (problem_at (start (counted at))) (counted at).open_bytes.ensures (few at) (needed_is at) fits found.ensures.0 found.ensures.1
+    let found = c.found in
+    let fits = c.if-room-needed.false in
+    searched (problem_at (start (counted at))) (counted at).open_bytes-bits.ensures (few at) (needed_is at) fits found.ensures.0 found.ensures.1
 
 pub find_good_spec : {M : Type 1} → statement M
 find_good_spec =

@@ -8,26 +8,26 @@ use Rattle.values.specs.Tables.{row_width}
 use Rattle.finder.proofs.rows.row_meets.Statement.{statement}
 use Rattle.finder.proofs.rows.row_meets.Tie as tie
 
-abbrev start : tie.After-meets-constraints → tie.Start
+abbrev start : tie.After-meets_constraints → tie.Start
 start c = c.before.before.before.before
 
-mul_from : tie.Need-overflow-mul-from
+mul_from : tie.Need-overflow_mul-from
 mul_from c = search rules
 
-add_to : tie.Need-overflow-add-to
+add_to : tie.Need-overflow_add-to
 add_to c = search rules
 
-sub_meets_constraints : tie.Need-overflow-sub-meets-constraints
+sub_meets_constraints : tie.Need-slice_bounds-meets_constraints-count
 sub_meets_constraints c = search rules
 
-part_meets_constraints_start : tie.Need-slice-bounds-meets-constraints-start
+part_meets_constraints_start : tie.Need-slice_bounds-meets_constraints-start
 part_meets_constraints_start c = search rules
 
-part_meets_constraints_end : tie.Need-slice-bounds-meets-constraints-end
+part_meets_constraints_end : tie.Need-slice_bounds-meets_constraints-end
 unfolding inputs_limit latches_limit gates_limit row_width
 part_meets_constraints_end c = omega arith
 
-meets_constraints_requires : tie.Need-meets-constraints-requires
+meets_constraints_requires : tie.Need-meets_constraints-requires
 meets_constraints_requires c κs = search rules
 
 returns : tie.Need-returns

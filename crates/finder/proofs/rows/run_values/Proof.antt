@@ -21,30 +21,30 @@ use Rattle.finder.proofs.RunValues.{RunTo, none_shown, row_shown, row_meets, bro
 use Rattle.finder.proofs.rows.run_values.Statement.{statement}
 use Rattle.finder.proofs.rows.run_values.Tie as tie
 
-abbrev invariant_loop : tie.invariant_loop
+abbrev invariant_loop : tie.invariant-loop-t
 invariant_loop words s m run₀ table₀ t₀ run table t = RunTo (problem_in s words) m t run table
 
-abbrev decreases_loop : tie.decreases_loop
+abbrev decreases_loop : tie.decreases-loop-t
 decreases_loop words s m run₀ table₀ t₀ run table t = s.bound + 1 - t
 
 -- ════════ The points ════════
 
-abbrev start : tie.At-loop invariant_loop decreases_loop → tie.Start invariant_loop decreases_loop
+abbrev start : tie.At-loop-t invariant_loop decreases_loop → tie.Start invariant_loop decreases_loop
 start c = c.before.before.before.before.before
 
-abbrev loop_of : tie.Then1 invariant_loop decreases_loop → tie.At-loop invariant_loop decreases_loop
+abbrev loop_of : tie.In-loop-t invariant_loop decreases_loop → tie.At-loop-t invariant_loop decreases_loop
 loop_of c = c.before.before
 
-abbrev turn : tie.After-row-values invariant_loop decreases_loop → tie.Then1 invariant_loop decreases_loop
+abbrev turn : tie.After-row_values invariant_loop decreases_loop → tie.In-loop-t invariant_loop decreases_loop
 turn c = c.before.before.before.before
 
-abbrev row_of : tie.After-row-meets invariant_loop decreases_loop → tie.After-row-values invariant_loop decreases_loop
-row_of c = c.before.before.before.before
+abbrev row_of : tie.After-row_meets invariant_loop decreases_loop → tie.After-row_values invariant_loop decreases_loop
+row_of c = c.before.before.before
 
-abbrev asked : tie.After-struct-known2 invariant_loop decreases_loop → tie.After-row-meets invariant_loop decreases_loop
+abbrev asked : tie.After-struct_known-in-loop-t-1 invariant_loop decreases_loop → tie.After-row_meets invariant_loop decreases_loop
 asked c = c.before.before
 
-abbrev passed : tie.After-struct-known2 invariant_loop decreases_loop → tie.After-row-values invariant_loop decreases_loop
+abbrev passed : tie.After-struct_known-in-loop-t-1 invariant_loop decreases_loop → tie.After-row_values invariant_loop decreases_loop
 passed c = row_of (asked c)
 
 abbrev problem_at : tie.Start invariant_loop decreases_loop → Problem
@@ -54,10 +54,10 @@ sizes : (c : tie.Start invariant_loop decreases_loop) → Shows c.args.s (proble
 sizes c = shows c.args.s c.args.words.now
 
 -- The table keeps its room.
-room_still : (c : tie.After-row-values invariant_loop decreases_loop) → length c.row-values.new.1.1.1.1.0 ≡ rows_room
-room_still c = c.row-values.auto.1.1.1.1.0 ∙ (loop_of (turn c)).loop.inv.values_right.room
+room_still : (c : tie.After-row_values invariant_loop decreases_loop) → length c.row_values.new.table ≡ rows_room
+room_still c = c.row_values.auto.table ∙ (loop_of (turn c)).loop-t.invariant.values_right.room
 
-module _ (c : tie.After-row-values invariant_loop decreases_loop) where
+module _ (c : tie.After-row_values invariant_loop decreases_loop) where
   abbrev problem_here : Problem
   problem_here = problem_at (start (loop_of (turn c)))
 
@@ -66,147 +66,147 @@ module _ (c : tie.After-row-values invariant_loop decreases_loop) where
   bytes_here = 0 ∷ run_bytes problem_here (start (loop_of (turn c))).args.m
 
 -- The row of the position is right.
-right_at : (c : tie.After-row-values invariant_loop decreases_loop)
-    → RowsRight (problem_here c) (bytes_here c) ((loop_of (turn c)).loop.t + 1) c.row-values.new.1.1.1.1.0
+right_at : (c : tie.After-row_values invariant_loop decreases_loop)
+    → RowsRight (problem_here c) (bytes_here c) ((loop_of (turn c)).loop-t.t + 1) c.row_values.new.table
 right_at c =
     let l = loop_of (turn c) in
     let s = start l in
-    row_shown (sizes s) s.pre.0.proper l.loop.inv (turn c).if1.true c.row-values.new.1.1.1.1.0
-    c.row-values.auto.1.1.1.1.0 c.row-values.ensures
+    row_shown (sizes s) s.requires.0.proper l.loop-t.invariant (turn c).loop-t-test.true c.row_values.new.table
+    c.row_values.auto.table c.row_values.ensures
 
 -- What is asked of it is whether the position meets the constraints.
-met_at : (c : tie.After-row-meets invariant_loop decreases_loop)
+met_at : (c : tie.After-row_meets invariant_loop decreases_loop)
     → c.row_meets.result
-    ≡ meets_constraints (problem_here (row_of c)) (position (problem_here (row_of c)) (bytes_here (row_of c)) (loop_of (turn (row_of c))).loop.t)
+    ≡ meets_constraints (problem_here (row_of c)) (position (problem_here (row_of c)) (bytes_here (row_of c)) (loop_of (turn (row_of c))).loop-t.t)
 met_at c =
     let l = loop_of (turn (row_of c)) in
     let s = start l in
-    row_meets (sizes s) s.pre.0.proper l.loop.inv (turn (row_of c)).if1.taken (right_at (row_of c)) c.row_meets.ensures
+    row_meets (sizes s) s.requires.0.proper l.loop-t.invariant (turn (row_of c)).loop-t-test.true (right_at (row_of c)) c.row_meets.ensures
 
 -- ════════ The needs ════════
 
 fill_requires : tie.Need-fill-requires invariant_loop decreases_loop
-fill_requires c κs = let pre = c.before.before.before.requires in (pre.0, pre.1)
+fill_requires c κs = let pre = c.requires in (pre.0, pre.1)
 
-loop_holds : tie.Need-loop-init invariant_loop decreases_loop
-loop_holds c = none_shown c.fill.ensures c.before.before.before.before.requires.2
+loop_holds : tie.Need-loop-t-init invariant_loop decreases_loop
+loop_holds c = none_shown c.fill.ensures c.requires.2
 
-cast_row_values : tie.Need-overflow-cast-row-values invariant_loop decreases_loop
+cast_row_values : tie.Need-overflow_cast-t invariant_loop decreases_loop
 cast_row_values c = omega arith
 
-mul_row_values : tie.Need-overflow-mul-row-values invariant_loop decreases_loop
+mul_row_values : tie.Need-offset_bounds-run-t invariant_loop decreases_loop
 mul_row_values c = omega arith
 
-index_1_row_values : tie.Need-bounds-1-row-values invariant_loop decreases_loop
+index_1_row_values : tie.Need-bounds-run-t invariant_loop decreases_loop
 unfolding bound_limit
-index_1_row_values c = omega (arith, bound_small (start (loop_of c)).pre.0)
+index_1_row_values c = omega (arith, bound_small (start (loop_of c)).requires.0)
 
-row_values_requires : tie.Need-row-values-requires invariant_loop decreases_loop
+row_values_requires : tie.Need-row_values-requires invariant_loop decreases_loop
 unfolding bound_limit positions_limit
 row_values_requires c κs =
     let then = c.before.before.before in
     let l = loop_of then in
-    let good = (start l).pre.0 in (
+    let good = (start l).requires.0 in (
       good,
-      then.if1.true,
-      l.loop.inv.held.bits_there l.loop.t (omega (arith, then.if1.true, bound_small good)),
-      l.loop.inv.values_right.room,
+      then.loop-t-test.true,
+      l.loop-t.invariant.held.bits_there l.loop-t.t (omega (arith, then.loop-t-test.true, bound_small good)),
+      l.loop-t.invariant.values_right.room,
     )
 
-row_meets_requires : tie.Need-row-meets-requires invariant_loop decreases_loop
+row_meets_requires : tie.Need-row_meets-requires invariant_loop decreases_loop
 unfolding inputs_limit latches_limit gates_limit bound_limit row_width
 row_meets_requires c κs =
-    let row = c.before.before.before in
-    omega (arith, (turn row).if1.true, bound_small (start (loop_of (turn row))).pre.0, room_still row)
+    let row = c.before.before in
+    omega (arith, (turn row).loop-t-test.true, bound_small (start (loop_of (turn row))).requires.0, room_still row)
 
-same_length : tie.Need-same-length invariant_loop decreases_loop
-same_length c = let row = row_of c.before in room_still row ∙ sym (start (loop_of (turn row))).pre.2
+same_length : tie.Need-shape_of-table-then-not-row_meets invariant_loop decreases_loop
+same_length c = let row = row_of c.before in room_still row ∙ sym (start (loop_of (turn row))).requires.2
 
-returns : tie.Need-returns invariant_loop decreases_loop
+returns : tie.Need-returns-then-not-row_meets invariant_loop decreases_loop
 returns c =
     let row = row_of c.before in
     let l = loop_of (turn row) in
     let s = start l in (
-      l.loop.inv.held,
+      l.loop-t.invariant.held,
       λ e. absurd (true≢false (sym e)),
-      λ e. broken_here (sizes s) s.pre.0.proper l.loop.inv (turn row).if1.taken (sym (met_at c.before) ∙ not-true _ c.if2.true),
+      λ e. broken_here (sizes s) s.requires.0.proper l.loop-t.invariant (turn row).loop-t-test.true (sym (met_at c.before) ∙ not-true _ c.if-not-row_meets.true-raw),
     )
 
-cast_from : tie.Need-overflow-cast-from invariant_loop decreases_loop
+cast_from : tie.Need-overflow_cast-from invariant_loop decreases_loop
 cast_from c = omega arith
 
-mul_from : tie.Need-overflow-mul-from invariant_loop decreases_loop
+mul_from : tie.Need-overflow_mul-from invariant_loop decreases_loop
 mul_from c = omega arith
 
-add_to : tie.Need-overflow-add-to invariant_loop decreases_loop
+add_to : tie.Need-overflow_add-to invariant_loop decreases_loop
 add_to c = omega arith
 
-sub_next_latches : tie.Need-overflow-sub-next-latches invariant_loop decreases_loop
+sub_next_latches : tie.Need-slice_bounds-next_latches-count invariant_loop decreases_loop
 sub_next_latches c = omega arith
 
-part_next_latches_start : tie.Need-slice-bounds-next-latches-start invariant_loop decreases_loop
+part_next_latches_start : tie.Need-slice_bounds-next_latches-start invariant_loop decreases_loop
 part_next_latches_start c = omega arith
 
-part_next_latches_end : tie.Need-slice-bounds-next-latches-end invariant_loop decreases_loop
+part_next_latches_end : tie.Need-slice_bounds-next_latches-end invariant_loop decreases_loop
 unfolding inputs_limit latches_limit gates_limit bound_limit row_width
 part_next_latches_end c =
-    let row = passed c.before.before in
-    omega (arith, (turn row).if1.taken, bound_small (start (loop_of (turn row))).pre.0, room_still row)
+    let row = passed c.before in
+    omega (arith, (turn row).loop-t-test.true, bound_small (start (loop_of (turn row))).requires.0, room_still row)
 
-cast_next_latches : tie.Need-overflow-cast-next-latches invariant_loop decreases_loop
+cast_next_latches : tie.Need-overflow_cast-t-then-t-s invariant_loop decreases_loop
 cast_next_latches c = omega arith
 
-add_next_latches : tie.Need-overflow-add-next-latches invariant_loop decreases_loop
+add_next_latches : tie.Need-overflow_add-t invariant_loop decreases_loop
 add_next_latches c = omega arith
 
-mul_next_latches : tie.Need-overflow-mul-next-latches invariant_loop decreases_loop
+mul_next_latches : tie.Need-offset_bounds-run-t-then-t-s invariant_loop decreases_loop
 mul_next_latches c = omega arith
 
-index_1_next_latches : tie.Need-bounds-1-next-latches invariant_loop decreases_loop
+index_1_next_latches : tie.Need-bounds-run-t-then-t-s invariant_loop decreases_loop
 unfolding bound_limit
 index_1_next_latches c =
     let then = c.before.before in
-    omega (arith, then.if3.true, bound_small (start (loop_of (turn (passed then.before)))).pre.0)
+    omega (arith, then.if-t-s.true, bound_small (start (loop_of (turn (passed then.before)))).requires.0)
 
-cast_next_latches_2 : tie.Need-overflow-cast-next-latches-2 invariant_loop decreases_loop
+cast_next_latches_2 : tie.Need-overflow_cast-s invariant_loop decreases_loop
 cast_next_latches_2 c = omega arith
 
-next_latches_requires : tie.Need-next-latches-requires invariant_loop decreases_loop
+next_latches_requires : tie.Need-next_latches-requires invariant_loop decreases_loop
 next_latches_requires c κs = tt
 
-add_t : tie.Need-overflow-add-t invariant_loop decreases_loop
+add_t : tie.Need-overflow_add-t-in-loop-t invariant_loop decreases_loop
 unfolding bound_limit
 add_t c =
     let then = turn (passed c.before) in
-    omega (arith, then.if1.taken, bound_small (start (loop_of then)).pre.0)
+    omega (arith, then.loop-t-test.true, bound_small (start (loop_of then)).requires.0)
 
-loop_less : tie.Need-loop-smaller invariant_loop decreases_loop
+loop_less : tie.Need-loop-t-smaller invariant_loop decreases_loop
 loop_less c = omega arith
 
-loop_again : tie.Need-loop-preserved invariant_loop decreases_loop
+loop_again : tie.Need-loop-t-preserved invariant_loop decreases_loop
 unfolding inputs_limit latches_limit gates_limit row_width
 loop_again c =
     let row = passed c.before in
     let l = loop_of (turn row) in
     let s = start l in
     let z = sizes s in
-    let here = (turn row).if1.taken in
+    let here = (turn row).loop-t-test.true in
     let right = right_at row in
-    let met = sym (met_at (asked c.before)) ∙ not-false _ c.before.before.if2.false in
-    let size = lent (l.loop.t * row_width) in
+    let met = sym (met_at (asked c.before)) ∙ not-false _ c.if-not-row_meets.false-raw in
+    let size = lent (l.loop-t.t * row_width) in
     ⊎_elim
-    (λ w. rw w.6 (next_shown z s.pre.0.proper l.loop.inv here w.0.taken _ right met _ (rw size at w.5.ensures)))
-    (λ w. rw w.1 (last_shown z s.pre.0.proper l.loop.inv here w.0.left _ right met))
-    c.if3.branch
+    (λ w. rw w.6 (next_shown z s.requires.0.proper l.loop-t.invariant here w.0.true _ right met _ (rw size at w.5.ensures)))
+    (λ w. rw w.1 (last_shown z s.requires.0.proper l.loop-t.invariant here w.0.false _ right met))
+    c.if-t-s.branch
 
-same_length_2 : tie.Need-same-length-2 invariant_loop decreases_loop
-same_length_2 c = let l = c.before.before in l.loop.invariant.values_right.room ∙ sym (start l).requires.2
+same_length_2 : tie.Need-shape_of-table invariant_loop decreases_loop
+same_length_2 c = let l = c.before.before in l.loop-t.invariant.values_right.room ∙ sym (start l).requires.2
 
-returns_2 : tie.Need-returns-2 invariant_loop decreases_loop
+returns_2 : tie.Need-returns invariant_loop decreases_loop
 returns_2 c =
     let l = c.before.before in (
-      l.loop.invariant.held,
-      λ e. all_shown (sizes (start l)) l.loop.invariant c.if1.false,
+      l.loop-t.invariant.held,
+      λ e. all_shown (sizes (start l)) l.loop-t.invariant c.loop-t-test.false,
       λ e. absurd (true≢false e),
     )
 

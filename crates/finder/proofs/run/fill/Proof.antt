@@ -11,7 +11,7 @@ use Rattle.finder.proofs.run.fill.Tie as tie
 
 -- ════════ The points ════════
 
-abbrev start : tie.After-all-inputs-by → tie.Start
+abbrev start : tie.After-all_inputs_by-digits → tie.Start
 start c = c.before.before.before
 
 sizes : (c : tie.Start) → Shows c.args.s (problem_in c.args.s c.args.words.now)
@@ -19,27 +19,27 @@ sizes c = shows c.args.s c.args.words.now
 
 -- ════════ The needs ════════
 
-all_inputs_by_requires : tie.Need-all-inputs-by-requires
+all_inputs_by_requires : tie.Need-all_inputs_by-digits-requires
 all_inputs_by_requires c κs =
     let s = c.before.before in
     (rw (sizes s).inputs_are at s.requires.0.proper.inputs_within, bound_small s.requires.0, s.requires.1)
 
-index_1_latches_by : tie.Need-bounds-1-latches-by
+index_1_latches_by : tie.Need-bounds-run-0
 index_1_latches_by c = search rules
 
-latches_by_requires : tie.Need-latches-by-requires
+latches_by_requires : tie.Need-latches_by-requires
 unfolding given_limit positions_limit
 latches_by_requires c κs =
     let s = start c.before in
-    let long = c.before.all-inputs-by.ensures.1.bits_there 0 (omega arith) in
-    (s.pre.0, omega (arith, long, sizes s, s.pre.0.proper.inputs_within, s.pre.0.proper.latches_within))
+    let long = c.all_inputs_by-digits.ensures.1.bits_there 0 (omega arith) in
+    (s.requires.0, omega (arith, long, sizes s, s.requires.0.proper.inputs_within, s.requires.0.proper.latches_within))
 
 returns : tie.Need-returns
 returns c =
     let a = c.before.before in
     let s = start a in
-    filled (sizes s) s.args.m a.all-inputs-by.ensures.1 a.all-inputs-by.ensures.2
-    a.all-inputs-by.ensures.0 c.latches_by.new.1.1.1.0 c.latches_by.auto.1.1.1.0 c.latches_by.ensures.0 c.latches_by.ensures.1
+    filled (sizes s) s.args.m a.all_inputs_by-digits.ensures.1 a.all_inputs_by-digits.ensures.2
+    a.all_inputs_by-digits.ensures.0 c.latches_by.new.row c.latches_by.auto.row c.latches_by.ensures.0 c.latches_by.ensures.1
 
 pub fill_spec : {M : Type 1} → statement M
 fill_spec =

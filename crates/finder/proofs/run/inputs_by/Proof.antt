@@ -11,44 +11,44 @@ use Rattle.finder.proofs.FromTheLast.{GivenFrom, none_given, one_given}
 use Rattle.finder.proofs.run.inputs_by.Statement.{statement}
 use Rattle.finder.proofs.run.inputs_by.Tie as tie
 
-abbrev invariant_loop : tie.invariant_loop
+abbrev invariant_loop : tie.invariant-loop-i
 invariant_loop inputs digits row₀ rest₀ i₀ row rest i =
     (i ≤ inputs) × (rest ≡ digits / 2 ^ (inputs - i)) × GivenFrom (λ (k : ℕ). eqb (digit digits (inputs - 1 - k)) 1) i inputs row₀ row
 
-abbrev decreases_loop : tie.decreases_loop
+abbrev decreases_loop : tie.decreases-loop-i
 decreases_loop inputs digits row₀ rest₀ i₀ row rest i = i
 
-loop_holds : tie.Need-loop-init invariant_loop decreases_loop
+loop_holds : tie.Need-loop-i-init invariant_loop decreases_loop
 loop_holds c = (omega arith, none_taken c.args.digits (omega arith), none_given)
 
-sub_i : tie.Need-overflow-sub-i invariant_loop decreases_loop
+sub_i : tie.Need-overflow_sub-i invariant_loop decreases_loop
 sub_i c = omega arith
 
-cast_row : tie.Need-overflow-cast-row invariant_loop decreases_loop
+cast_row : tie.Need-overflow_cast-row invariant_loop decreases_loop
 cast_row c = omega arith
 
-slice_write_row : tie.Need-slice-write-row invariant_loop decreases_loop
-slice_write_row c = omega (arith, c.before.loop.invariant.2.long)
+slice_write_row : tie.Need-bounds-row-i invariant_loop decreases_loop
+slice_write_row c = omega (arith, c.loop-i.invariant.2.long)
 
-loop_less : tie.Need-loop-smaller invariant_loop decreases_loop
+loop_less : tie.Need-loop-i-smaller invariant_loop decreases_loop
 loop_less c = omega arith
 
-loop_again : tie.Need-loop-preserved invariant_loop decreases_loop
+loop_again : tie.Need-loop-i-preserved invariant_loop decreases_loop
 loop_again c =
-    let l = c.before.loop in
-    let a = c.before.before.args in (
+    let l = c.loop-i in
+    let a = c.args in (
       omega arith,
       one_taken a.digits (a.inputs - l.i) l.invariant.1 (omega arith),
       one_given l.invariant.2 (l.i - 1) (omega arith) (omega arith) (omega arith)
           (ap (λ (b : ℕ). eqb b 1) (next_digit a.digits (a.inputs - l.i) l.invariant.1 (omega arith))),
     )
 
-same_length : tie.Need-same-length invariant_loop decreases_loop
-same_length c = c.before.loop.invariant.2.long
+same_length : tie.Need-shape_of-row invariant_loop decreases_loop
+same_length c = c.loop-i.invariant.2.long
 
 returns : tie.Need-returns invariant_loop decreases_loop
 returns c =
-    let l = c.before.loop in
+    let l = c.loop-i in
     let i_is_0 : l.i ≡ 0 = omega arith in
     (rw (i_is_0, sub-zero) at l.invariant.1, λ i h. l.invariant.2.there i (omega arith) h, λ i h. l.invariant.2.past i h)
 

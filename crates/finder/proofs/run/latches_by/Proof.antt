@@ -13,18 +13,18 @@ use Rattle.finder.proofs.FirstLatches.{LatchesFrom, no_latches, free_latch, fixe
 use Rattle.finder.proofs.run.latches_by.Statement.{statement}
 use Rattle.finder.proofs.run.latches_by.Tie as tie
 
-abbrev invariant_loop : tie.invariant_loop
+abbrev invariant_loop : tie.invariant-loop-i
 invariant_loop words s digits row₀ rest₀ i₀ row rest i = LatchesFrom (resets (problem_in s words)) s.inputs digits i rest row₀ row
 
-abbrev decreases_loop : tie.decreases_loop
+abbrev decreases_loop : tie.decreases-loop-i
 decreases_loop words s digits row₀ rest₀ i₀ row rest i = i
 
 -- ════════ The points ════════
 
-abbrev start : tie.At-loop invariant_loop decreases_loop → tie.Start invariant_loop decreases_loop
+abbrev start : tie.At-loop-i invariant_loop decreases_loop → tie.Start invariant_loop decreases_loop
 start l = l.before.before.before
 
-abbrev turn : tie.After-latch-reset invariant_loop decreases_loop → tie.At-loop invariant_loop decreases_loop
+abbrev turn : tie.After-latch_reset-reset invariant_loop decreases_loop → tie.At-loop-i invariant_loop decreases_loop
 turn c = c.before.before.before
 
 abbrev problem_at : tie.Start invariant_loop decreases_loop → Problem
@@ -35,72 +35,72 @@ many : (c : tie.Start invariant_loop decreases_loop) → length (resets (problem
 many c = length_resets (problem_at c) ∙ (shows c.args.s c.args.words.now).latches_are
 
 -- The reset that the code reads.
-read : (c : tie.After-latch-reset invariant_loop decreases_loop)
-    → c.latch-reset.result ≡ get_or (resets (problem_at (start (turn c)))) ((turn c).loop.i - 1) 2
-read c = c.latch-reset.ensures ∙ sym (reset_of (problem_at (start (turn c))) ((turn c).loop.i - 1))
+read : (c : tie.After-latch_reset-reset invariant_loop decreases_loop)
+    → c.latch_reset-reset.result ≡ get_or (resets (problem_at (start (turn c)))) ((turn c).loop-i.i - 1) 2
+read c = c.latch_reset-reset.ensures ∙ sym (reset_of (problem_at (start (turn c))) ((turn c).loop-i.i - 1))
 
 -- It is at most 2.
-read_small : (c : tie.After-latch-reset invariant_loop decreases_loop) → c.latch-reset.result ≤ 2
+read_small : (c : tie.After-latch_reset-reset invariant_loop decreases_loop) → c.latch_reset-reset.result ≤ 2
 read_small c =
     let s = start (turn c) in
-    let e : c.latch-reset.result ≡ _ = c.latch-reset.ensures in
-    omega (arith, e, s.pre.0.proper.reset_in_range ((turn c).loop.i - 1) (omega (arith, many s, length_resets (problem_at s), (turn c).loop.invariant.within)))
+    let e : c.latch_reset-reset.result ≡ _ = c.latch_reset-reset.ensures in
+    omega (arith, e, s.requires.0.proper.reset_in_range ((turn c).loop-i.i - 1) (omega (arith, many s, length_resets (problem_at s), (turn c).loop-i.invariant.within)))
 
 -- ════════ The needs ════════
 
-loop_holds : tie.Need-loop-init invariant_loop decreases_loop
+loop_holds : tie.Need-loop-i-init invariant_loop decreases_loop
 loop_holds c = no_latches (sym (many c.before.before))
 
-sub_i : tie.Need-overflow-sub-i invariant_loop decreases_loop
+sub_i : tie.Need-overflow_sub-i invariant_loop decreases_loop
 sub_i c = omega arith
 
-cast_at : tie.Need-overflow-cast-at invariant_loop decreases_loop
+cast_at : tie.Need-overflow_cast-at invariant_loop decreases_loop
 cast_at c = omega arith
 
-cast_at_2 : tie.Need-overflow-cast-at-2 invariant_loop decreases_loop
+cast_at_2 : tie.Need-overflow_cast-at-in-loop-i invariant_loop decreases_loop
 cast_at_2 c = omega (arith, many (start c.before.before))
 
-add_at : tie.Need-overflow-add-at invariant_loop decreases_loop
+add_at : tie.Need-overflow_add-at invariant_loop decreases_loop
 add_at c = omega (arith, many (start c.before.before))
 
-latch_reset_requires : tie.Need-latch-reset-requires invariant_loop decreases_loop
+latch_reset_requires : tie.Need-latch_reset-reset-requires invariant_loop decreases_loop
 latch_reset_requires c κs = tt
 
-slice_write_row : tie.Need-slice-write-row invariant_loop decreases_loop
+slice_write_row : tie.Need-bounds-row-at invariant_loop decreases_loop
 slice_write_row c =
     let l = turn c.before in
-    omega (arith, many (start l), l.loop.inv.within, l.loop.inv.given.long)
+    omega (arith, many (start l), l.loop-i.invariant.within, l.loop-i.invariant.given.long)
 
-loop_less : tie.Need-loop-smaller invariant_loop decreases_loop
+loop_less : tie.Need-loop-i-smaller-then-reset-eq-FREE invariant_loop decreases_loop
 loop_less c = omega arith
 
-loop_again : tie.Need-loop-preserved invariant_loop decreases_loop
+loop_again : tie.Need-loop-i-preserved-then-reset-eq-FREE invariant_loop decreases_loop
 loop_again c =
     let l = turn c.before in
-    free_latch l.loop.inv (omega (arith, many (start l))) (l.loop.i - 1) (omega arith) (sym (read c.before) ∙ c.if1.true)
+    free_latch l.loop-i.invariant (omega (arith, many (start l))) (l.loop-i.i - 1) (omega arith) (sym (read c.before) ∙ c.if-reset-eq-FREE.true)
 
-slice_write_row_2 : tie.Need-slice-write-row-2 invariant_loop decreases_loop
+slice_write_row_2 : tie.Need-bounds-row-at-else-reset-eq-FREE invariant_loop decreases_loop
 slice_write_row_2 c =
     let l = turn c.before in
-    omega (arith, many (start l), l.loop.inv.within, l.loop.inv.given.long)
+    omega (arith, many (start l), l.loop-i.invariant.within, l.loop-i.invariant.given.long)
 
-loop_less_2 : tie.Need-loop-smaller-2 invariant_loop decreases_loop
+loop_less_2 : tie.Need-loop-i-smaller invariant_loop decreases_loop
 loop_less_2 c = omega arith
 
-loop_again_2 : tie.Need-loop-preserved-2 invariant_loop decreases_loop
+loop_again_2 : tie.Need-loop-i-preserved invariant_loop decreases_loop
 loop_again_2 c =
     let l = turn c.before in
-    fixed_latch l.loop.inv (omega (arith, many (start l))) (l.loop.i - 1) (omega arith) (read c.before)
-    (omega (arith, read_small c.before, c.if1.false))
+    fixed_latch l.loop-i.invariant (omega (arith, many (start l))) (l.loop-i.i - 1) (omega arith) (read c.before)
+    (omega (arith, read_small c.before, c.if-reset-eq-FREE.false))
 
-same_length : tie.Need-same-length invariant_loop decreases_loop
-same_length c = c.before.loop.invariant.given.long
+same_length : tie.Need-shape_of-row invariant_loop decreases_loop
+same_length c = c.loop-i.invariant.given.long
 
 returns : tie.Need-returns invariant_loop decreases_loop
 returns c =
-    let inv = c.before.loop.invariant in
+    let inv = c.loop-i.invariant in
     let long = many (start c.before) in
-    (λ i h. all_latches inv c.loop_test.false i (omega (arith, long)), inputs_kept inv c.loop_test.false)
+    (λ i h. all_latches inv c.loop-i-test.false i (omega (arith, long)), inputs_kept inv c.loop-i-test.false)
 
 pub latches_by_spec : {M : Type 1} → statement M
 latches_by_spec =

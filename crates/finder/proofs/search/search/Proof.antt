@@ -20,73 +20,73 @@ use Rattle.finder.proofs.search.search.Statement.{statement}
 use Rattle.finder.proofs.search.search.Tie as tie
 
 -- The best of the runs passed, and tables of the right size.
-abbrev invariant_loop : tie.invariant_loop
+abbrev invariant_loop : tie.invariant-loop-m
 invariant_loop words s runs first₀ found₀ run₀ table₀ m₀ first found run table m =
     (m ≤ runs) × BestOf (problem_in s words) m (record { first = first; run = found }) × Held run × (length table ≡ rows_room)
 
-abbrev decreases_loop : tie.decreases_loop
+abbrev decreases_loop : tie.decreases-loop-m
 decreases_loop words s runs first₀ found₀ run₀ table₀ m₀ first found run table m = runs - m
 
 -- ════════ The points ════════
 
-abbrev start : tie.At-loop invariant_loop decreases_loop → tie.Start invariant_loop decreases_loop
+abbrev start : tie.At-loop-m invariant_loop decreases_loop → tie.Start invariant_loop decreases_loop
 start c = c.before.before.before
 
-abbrev turn : tie.After-table invariant_loop decreases_loop → tie.In-loop invariant_loop decreases_loop
+abbrev turn : tie.After-table-1 invariant_loop decreases_loop → tie.In-loop-m invariant_loop decreases_loop
 turn c = c.before.before
 
-abbrev trial : tie.Joined1 invariant_loop decreases_loop → tie.After-tried invariant_loop decreases_loop
+abbrev trial : tie.Joined-lower-first invariant_loop decreases_loop → tie.After-tried-lower invariant_loop decreases_loop
 trial c = c.before.before
 
 -- A run is left.
-run_left : (c : tie.In-loop invariant_loop decreases_loop) → c.before.loop.m < (start c.before).args.runs
-run_left c = ltb-true _ _ (first_true (ltb c.before.loop.m (start c.before).args.runs) _ c.loop_test.true)
+run_left : (c : tie.In-loop-m invariant_loop decreases_loop) → c.loop-m.m < (start c.before).args.runs
+run_left c = ltb-true _ _ (first_true (ltb c.loop-m.m (start c.before).args.runs) _ c.loop-m-test.true)
 
 -- ════════ The needs ════════
 
-add_first : tie.Need-overflow-add-first invariant_loop decreases_loop
+add_first : tie.Need-overflow_add-first invariant_loop decreases_loop
 unfolding bound_limit
-add_first c = omega (arith, bound_small c.before.before.requires)
+add_first c = omega (arith, bound_small c.requires)
 
-loop_holds : tie.Need-loop-init invariant_loop decreases_loop
+loop_holds : tie.Need-loop-m-init invariant_loop decreases_loop
 unfolding inputs_limit latches_limit gates_limit bound_limit row_width positions_limit given_limit
 loop_holds c =
     let s = c.before.before in
     let z = shows s.args.s s.args.words.now in
     (omega arith, best_of_none _ 0 (omega arith), held_new, length-replicate rows_room false)
 
-slice_aggregate_tried : tie.Need-slice-aggregate-tried invariant_loop decreases_loop
+slice_aggregate_tried : tie.Need-slice_bounds-tried-end invariant_loop decreases_loop
 unfolding inputs_limit latches_limit gates_limit bound_limit row_width
-slice_aggregate_tried c = sym (turn c).before.loop.invariant.3
+slice_aggregate_tried c = sym (turn c).loop-m.invariant.3
 
-tried_requires : tie.Need-tried-requires invariant_loop decreases_loop
+tried_requires : tie.Need-tried-lower-requires invariant_loop decreases_loop
 tried_requires c κs =
     let l = (turn c).before in
     let s = start l in
     let z = shows s.args.s s.args.words.now in
-    (s.pre, omega (arith, l.loop.inv.1.within), l.loop.inv.2, l.loop.inv.3)
+    (s.requires, omega (arith, l.loop-m.invariant.1.within), l.loop-m.invariant.2, l.loop-m.invariant.3)
 
-add_m : tie.Need-overflow-add-m invariant_loop decreases_loop
-add_m c = omega (arith, run_left (turn (trial c).before), (start (turn (trial c).before).before).fits.runs)
+add_m : tie.Need-overflow_add-m invariant_loop decreases_loop
+add_m c = omega (arith, run_left (turn (trial c).before), (start (turn (trial c).before).before).ranges.runs)
 
-loop_less : tie.Need-loop-smaller invariant_loop decreases_loop
+loop_less : tie.Need-loop-m-smaller invariant_loop decreases_loop
 loop_less c = omega (arith, run_left (turn (trial c).before))
 
-loop_again : tie.Need-loop-preserved invariant_loop decreases_loop
+loop_again : tie.Need-loop-m-preserved invariant_loop decreases_loop
 loop_again c =
     let l = (turn (trial c).before).before in
-    let call = (trial c).tried in (
+    let call = (trial c).tried-lower in (
       omega (arith, run_left (turn (trial c).before)),
       ⊎_elim
-          (λ w. better l.loop.inv.1 call.ensures.0 w.0.taken w.1 w.2)
-          (λ w. no_better l.loop.inv.1 call.ensures.0 w.0.left w.1 w.2)
-          c.if1.branch,
+          (λ w. better l.loop-m.invariant.1 call.ensures.0 w.0.true w.1 w.2)
+          (λ w. no_better l.loop-m.invariant.1 call.ensures.0 w.0.false w.1 w.2)
+          c.if-lower-first.branch,
       call.ensures.1,
-      call.kept.1.1.1.1.1.0 ∙ l.loop.inv.3,
+      call.auto.table ∙ l.loop-m.invariant.3,
     )
 
 returns : tie.Need-returns invariant_loop decreases_loop
-returns c = best_of_all c.before.loop.invariant.1 c.before.loop.invariant.0 c.loop_test.false
+returns c = best_of_all c.loop-m.invariant.1 c.loop-m.invariant.0 c.loop-m-test.false
 
 pub search_spec : {M : Type 1} → statement M
 search_spec =

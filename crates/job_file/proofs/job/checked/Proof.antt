@@ -14,75 +14,75 @@ use Rattle.job_file.proofs.job.checked.Statement.{statement}
 use Rattle.job_file.proofs.job.checked.Tie as tie
 
 -- The points: neither too long nor too short, the version is asked for, it is known, the length of the rest is read.
-abbrev long_enough : tie.After-known-version → tie.Else2
+abbrev long_enough : tie.After-known_version → tie.Else-bytes-lt-JOB_HEADER
 long_enough c = c.before.before
 
-abbrev asked : tie.After-number → tie.After-known-version
+abbrev asked : tie.After-number-rest → tie.After-known_version
 asked c = c.before.before
 
-returns : tie.Need-returns
+returns : tie.Need-returns-then-bytes-gt-JOB_LIMIT
 unfolding job_limit
-returns c = sym (at_too_long _ c.if1.true)
+returns c = sym (at_too_long _ c.if-bytes-gt-JOB_LIMIT.true)
 
-returns_2 : tie.Need-returns-2
+returns_2 : tie.Need-returns-then-bytes-lt-JOB_HEADER
 unfolding job_limit
-returns_2 c = sym (at_too_short _ c.before.if1.false c.if2.true)
+returns_2 c = sym (at_too_short _ c.if-bytes-gt-JOB_LIMIT.false c.if-bytes-lt-JOB_HEADER.true)
 
-shared_slice_read_version : tie.Need-shared-slice-read-version
+shared_slice_read_version : tie.Need-bounds-bytes-0
 shared_slice_read_version c = search rules
 
-cast_version : tie.Need-overflow-cast-version
-cast_version c = omega (arith, c.shared-slice-known2.given 0)
+cast_version : tie.Need-overflow_cast-version
+cast_version c = omega (arith, c.shared_slice_known-2-1.given 0)
 
-known_version_requires : tie.Need-known-version-requires
+known_version_requires : tie.Need-known_version-requires
 known_version_requires c κs = search rules
 
-returns_3 : tie.Need-returns-3
+returns_3 : tie.Need-returns-then-not-known_version
 unfolding job_limit
 returns_3 c =
     let call = c.before in
-    let unknown = not-true call.known-version.result c.if3.true in
-    sym (at_version _ (long_enough call).before.if1.false (long_enough call).if2.false (sym call.known-version.ensures ∙ unknown))
+    let unknown = not-true call.known_version.result c.if-not-known_version.true-raw in
+    sym (at_version _ (long_enough call).if-bytes-gt-JOB_LIMIT.false (long_enough call).if-bytes-lt-JOB_HEADER.false (sym call.known_version.ensures ∙ unknown))
 
 -- The version is known.
-known : (c : tie.Else3) → ltb 0 (header_words (job_version (long_enough c.before).before.before.before.args.bytes.now)) ≡ true
-known c = sym c.before.known-version.ensures ∙ not-false c.before.known-version.result c.if3.false
+known : (c : tie.Else-not-known_version) → ltb 0 (header_words (job_version (long_enough c.before).args.bytes.now)) ≡ true
+known c = sym c.known_version.ensures ∙ not-false c.known_version.result c.if-not-known_version.false-raw
 
-number_requires : tie.Need-number-requires
+number_requires : tie.Need-number-rest-requires
 number_requires c κs = search rules
 
-cast_rest : tie.Need-overflow-cast-rest
+cast_rest : tie.Need-overflow_cast-rest
 cast_rest c = search rules
 
-sub_if4 : tie.Need-overflow-sub-if4
+sub_if4 : tie.Need-overflow_sub-bytes
 sub_if4 c = search rules
 
-returns_4 : tie.Need-returns-4
+returns_4 : tie.Need-returns-then-rest-bytes
 unfolding job_limit
 returns_4 c =
     let read = c.before in
     let long = long_enough (asked read) in
-    sym (at_length _ long.before.if1.left long.if2.left (known read.before) (λ e. c.if4.true (read.number.ensures ∙ e)))
+    sym (at_length _ long.if-bytes-gt-JOB_LIMIT.false long.if-bytes-lt-JOB_HEADER.false (known read.before) (λ e. c.if-rest-bytes.true (read.number-rest.ensures ∙ e)))
 
-returns_5 : tie.Need-returns-5
+returns_5 : tie.Need-returns-then-rest-ne0
 unfolding job_limit
 returns_5 c =
     let read = c.before.before in
     let long = long_enough (asked read) in
-    let rest = read.number.ensures in
+    let rest = read.number-rest.ensures in
     sym
-    (at_fourth _ long.before.if1.left long.if2.left (known read.before) (sym rest ∙ c.before.if4.false)
-    (λ e. c.if5.true (ap (λ n. n % 4) rest ∙ e)))
+    (at_fourth _ long.if-bytes-gt-JOB_LIMIT.false long.if-bytes-lt-JOB_HEADER.false (known read.before) (sym rest ∙ c.if-rest-bytes.false)
+    (λ e. c.if-rest-ne0.true (ap (λ n. n % 4) rest ∙ e)))
 
-returns_6 : tie.Need-returns-6
+returns_6 : tie.Need-returns
 unfolding job_limit
 returns_6 c =
     let read = c.before.before in
     let long = long_enough (asked read) in
-    let rest = read.number.ensures in
+    let rest = read.number-rest.ensures in
     sym
-    (at_good _ long.before.if1.left long.if2.left (known read.before) (sym rest ∙ c.before.if4.false)
-    (ap (λ n. n % 4) (sym rest) ∙ c.if5.false))
+    (at_good _ long.if-bytes-gt-JOB_LIMIT.false long.if-bytes-lt-JOB_HEADER.false (known read.before) (sym rest ∙ c.if-rest-bytes.false)
+    (ap (λ n. n % 4) (sym rest) ∙ c.if-rest-ne0.false))
 
 pub checked_spec : {M : Type 1} → statement M
 checked_spec =

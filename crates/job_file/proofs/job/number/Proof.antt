@@ -31,68 +31,68 @@ number_is bs i h =
 -- ════════ The needs ════════
 
 -- The point: all four bytes are read.
-abbrev start : tie.After-shared-slice-known4 → tie.Start
+abbrev start : tie.After-shared_slice_known-4-1 → tie.Start
 start c = c.before.before.before.before
 
-shared_slice_read_a : tie.Need-shared-slice-read-a
+shared_slice_read_a : tie.Need-bounds-bytes-at
 shared_slice_read_a c = search rules
 
-cast_a : tie.Need-overflow-cast-a
-cast_a c = omega (arith, c.shared-slice-known.given c.before.args.at)
+cast_a : tie.Need-overflow_cast-a
+cast_a c = omega (arith, c.shared_slice_known-1.given c.args.at)
 
-add_b : tie.Need-overflow-add-b
+add_b : tie.Need-overflow_add-b
 add_b c = search rules
 
-shared_slice_read_b : tie.Need-shared-slice-read-b
+shared_slice_read_b : tie.Need-bounds-bytes-at-2
 shared_slice_read_b c = search rules
 
-cast_b : tie.Need-overflow-cast-b
-cast_b c = omega (arith, c.shared-slice-known2.given (c.before.before.args.at + 1))
+cast_b : tie.Need-overflow_cast-b
+cast_b c = omega (arith, c.shared_slice_known-2-1.given (c.args.at + 1))
 
-add_c : tie.Need-overflow-add-c
+add_c : tie.Need-overflow_add-c
 add_c c = search rules
 
-shared_slice_read_c : tie.Need-shared-slice-read-c
+shared_slice_read_c : tie.Need-bounds-bytes-at-3
 shared_slice_read_c c = search rules
 
-cast_c : tie.Need-overflow-cast-c
-cast_c c = omega (arith, c.shared-slice-known3.given (c.before.before.before.args.at + 2))
+cast_c : tie.Need-overflow_cast-c
+cast_c c = omega (arith, c.shared_slice_known-3-1.given (c.args.at + 2))
 
-add_d : tie.Need-overflow-add-d
+add_d : tie.Need-overflow_add-d
 add_d c = search rules
 
-shared_slice_read_d : tie.Need-shared-slice-read-d
+shared_slice_read_d : tie.Need-bounds-bytes-at-4
 shared_slice_read_d c = search rules
 
-cast_d : tie.Need-overflow-cast-d
-cast_d c = omega (arith, c.shared-slice-known4.given ((start c).args.at + 3))
+cast_d : tie.Need-overflow_cast-d
+cast_d c = omega (arith, c.shared_slice_known-4-1.given ((start c).args.at + 3))
 
 -- Each of the four is a byte.
 abbrev Bytes : List ℕ → ℕ → Type 0
 Bytes bs i = (get_or bs i 0 < 256) × (get_or bs (i + 1) 0 < 256) × (get_or bs (i + 2) 0 < 256) × (get_or bs (i + 3) 0 < 256)
 
-bytes : (c : tie.After-shared-slice-known4) → Bytes (start c).args.bytes.now (start c).args.at
+bytes : (c : tie.After-shared_slice_known-4-1) → Bytes (start c).args.bytes.now (start c).args.at
 bytes c =
     let i = (start c).args.at in
-    let given = c.shared-slice-known4.given in
+    let given = c.shared_slice_known-4-1.given in
     omega (arith, given i, given (i + 1), given (i + 2), given (i + 3))
 
-mul_result : tie.Need-overflow-mul-result
+mul_result : tie.Need-overflow_mul-result
 mul_result c = omega (arith, bytes c)
 
-add_result : tie.Need-overflow-add-result
+add_result : tie.Need-overflow_add-result
 add_result c = omega (arith, bytes c)
 
-mul_result_2 : tie.Need-overflow-mul-result-2
+mul_result_2 : tie.Need-overflow_mul-result-2
 mul_result_2 c = omega (arith, bytes c)
 
-add_result_2 : tie.Need-overflow-add-result-2
+add_result_2 : tie.Need-overflow_add-result-2
 add_result_2 c = omega (arith, bytes c)
 
-mul_result_3 : tie.Need-overflow-mul-result-3
+mul_result_3 : tie.Need-overflow_mul-result-3
 mul_result_3 c = omega (arith, bytes c)
 
-add_result_3 : tie.Need-overflow-add-result-3
+add_result_3 : tie.Need-overflow_add-result-3
 add_result_3 c = omega (arith, bytes c)
 
 returns : tie.Need-returns

@@ -16,61 +16,61 @@ use Rattle.job_file.proofs.job.read_job.Tie as tie
 abbrev start : tie.After-checked → tie.Start
 start c = c.before.before
 
-abbrev checking : tie.After-enum-told → tie.After-checked
-checking c = c.before.before
+abbrev checking : tie.In-Good → tie.After-checked
+checking c = c.before
 
-abbrev right : tie.After-words2 → tie.After-enum-told
+abbrev right : tie.After-words-in-Good-1 → tie.In-Good
 right c = c.before.before.before
 
 checked_requires : tie.Need-checked-requires
 checked_requires c κs = search rules
 
-enum_known_place : tie.Need-enum-known-place
+enum_known_place : tie.Need-enum_known-place
 enum_known_place c = search rules
 
-enum_told : tie.Need-enum-told
+enum_told : tie.Need-enum_told-1
 enum_told c = search rules
 
 -- A job that is not refused has a header, and is within the limit.
-lengths : (c : tie.After-enum-told)
+lengths : (c : tie.In-Good)
     → let bytes = (start (checking c)).args.bytes.now in (length bytes ≤ job_limit) × (job_header ≤ length bytes)
-lengths c = good_length _ (sym (checking c).checked.ensures ∙ ap job_answered c.enum_told.given.1)
+lengths c = good_length _ (sym (checking c).checked.ensures ∙ ap job_answered c.in-Good.is)
 
-sub_count : tie.Need-overflow-sub-count
+sub_count : tie.Need-overflow_sub-count
 sub_count c = (lengths c).1
 
-slice_aggregate_read_words : tie.Need-slice-aggregate-read-words
+slice_aggregate_read_words : tie.Need-slice_bounds-read_words-end
 slice_aggregate_read_words c = search rules
 
-read_words_requires : tie.Need-read-words-requires
+read_words_requires : tie.Need-read_words-requires
 unfolding job_limit
 read_words_requires c κs = omega (arith, lengths c.before)
 
-shared_slice_read_t16 : tie.Need-shared-slice-read-t16
+shared_slice_read_t16 : tie.Need-bounds-bytes-0
 shared_slice_read_t16 c = omega (arith, lengths (right c.before))
 
-cast_t17 : tie.Need-overflow-cast-t17
-cast_t17 c = omega (arith, c.shared-slice-known2.given 0)
+cast_t17 : tie.Need-overflow_cast-result
+cast_t17 c = omega (arith, c.shared_slice_known-in-Good-1.given 0)
 
-returns : tie.Need-returns
+returns : tie.Need-returns-in-Bad
 unfolding job_limit words_room
 returns c =
     record {
-      answered = ap job_answered (sym c.before.place.given.1) ∙ c.before.before.before.checked.ensures;
+      answered = ap job_answered (sym c.in-Bad.is) ∙ c.checked.ensures;
       version = refl;
       counted = refl;
       words = refl;
     }
 
-returns_2 : tie.Need-returns-2
+returns_2 : tie.Need-returns-in-Good
 unfolding job_limit words_room job_words
 returns_2 c =
     let told = right c.before in
     record {
-      answered = ap job_answered (sym told.enum_told.given.1) ∙ (checking told).checked.ensures;
+      answered = ap job_answered (sym told.in-Good.is) ∙ (checking told).checked.ensures;
       version = refl;
       counted = sym (length_words _ _);
-      words = c.before.before.read-words.ensures;
+      words = c.read_words.ensures;
     }
 
 pub read_job_spec : {M : Type 1} → statement M

@@ -36,25 +36,25 @@ within_room : (room : List ℤ) {r : Encoded} {n : Counts} → r ≡ Written n �
 within_room room e h = (rw e at h) refl
 
 -- The points: the CNF was written, its text is put; or it was not, and the line is put.
-abbrev start : tie.After-r → tie.Start
-start c = c.before.before.before
+abbrev start : tie.In-Written → tie.Start
+start c = c.before.before
 
-abbrev written : tie.After-cnf-text → tie.After-r
-written c = c.before.before.before.before
+abbrev written : tie.After-cnf_text → tie.In-Written
+written c = c.before.before
 
-abbrev refusal : tie.After-refusal-text → tie.After-place
+abbrev refusal : tie.After-refusal_text → tie.After-place
 refusal c = c.before.before
 
-enum_known_r : tie.Need-enum-known-r
+enum_known_r : tie.Need-enum_known-r
 enum_known_r c = search rules
 
-slice_aggregate_cnf_text : tie.Need-slice-aggregate-cnf-text
+slice_aggregate_cnf_text : tie.Need-slice_bounds-cnf_text-end
 slice_aggregate_cnf_text c =
-    let told = c.before.before in
+    let told = c in
     let room = (start told).args.room.now in
-    sym (length-take-le told.r.given.0.0.words room (within_room room told.r.given.1 (start told).requires))
+    sym (length-take-le told.in-Written.n.words room (within_room room told.in-Written.is (start told).requires))
 
-cnf_text_requires : tie.Need-cnf-text-requires
+cnf_text_requires : tie.Need-cnf_text-requires
 cnf_text_requires c κs = search rules
 
 number_requires : tie.Need-number-requires
@@ -63,30 +63,30 @@ number_requires c κs = search rules
 place_requires : tie.Need-place-requires
 place_requires c κs = search rules
 
-refusal_text_requires : tie.Need-refusal-text-requires
+refusal_text_requires : tie.Need-refusal_text-requires
 refusal_text_requires c κs = search rules
 
-same_length : tie.Need-same-length
+same_length : tie.Need-shape_of-out-in-Written
 same_length c = search rules
 
-returns : tie.Need-returns
+returns : tie.Need-returns-in-Written
 returns c =
     let put = c.before.before in
     let told = written put in
     let args = (start told).args in
-    prints_as (ap (λ (r : Encoded). encoded_text r args.room.now) (sym told.r.given.1)) put.cnf_text.ensures
+    prints_as (ap (λ (r : Encoded). encoded_text r args.room.now) (sym told.in-Written.is)) put.cnf_text.ensures
 
-same_length_2 : tie.Need-same-length-2
+same_length_2 : tie.Need-shape_of-out-in_default
 same_length_2 c = search rules
 
-returns_2 : tie.Need-returns-2
+returns_2 : tie.Need-returns-in_default
 returns_2 c =
     let put = c.before.before in
     let placed = refusal put in
     let told = placed.before.before in
-    let args = told.before.before.args in
-    prints_as (line_by (answer_of args.r) placed.before.number.ensures placed.place.ensures ∙ refused args.r args.room.now told.match.keys2)
-    put.refusal-text.ensures
+    let args = told.args in
+    prints_as (line_by (answer_of args.r) placed.number.ensures placed.place.ensures ∙ refused args.r args.room.now told.in_default.in_default-own.keys2)
+    put.refusal_text.ensures
 
 pub print_encoded_spec : {M : Type 1} → statement M
 print_encoded_spec =

@@ -39,34 +39,34 @@ module _ (a : List ℕ) (m : ℕ) (b : List ℕ) (n : ℕ) {o : List ℕ} (h : l
 -- ════════ The points ════════
 
 -- The opening is put, the first number, what stands between, the second number.
-abbrev opening_put : tie.After-put-number → tie.After-put-bytes
+abbrev opening_put : tie.After-put_number-one → tie.After-put_bytes-opened
 opening_put c = c.before.before.before.before
 
-abbrev first_put : tie.After-put-bytes2 → tie.After-put-number
+abbrev first_put : tie.After-put_bytes-parted → tie.After-put_number-one
 first_put c = c.before.before.before.before
 
-abbrev between_put : tie.After-put-ended → tie.After-put-bytes2
+abbrev between_put : tie.After-put_ended → tie.After-put_bytes-parted
 between_put c = c.before.before.before.before
 
 -- The entry, by where the buffers' lengths are known.
-abbrev start : tie.After-put-bytes-arg → tie.Start
+abbrev start : tie.After-put_bytes-arg-1 → tie.Start
 start c = c.before.before.before.before
 
 -- ════════ The needs ════════
 
-put_bytes_requires : tie.Need-put-bytes-requires
+put_bytes_requires : tie.Need-put_bytes-opened-requires
 put_bytes_requires c κs = search rules
 
-put_number_requires : tie.Need-put-number-requires
+put_number_requires : tie.Need-put_number-one-requires
 put_number_requires c κs = search rules
 
-put_bytes_requires_2 : tie.Need-put-bytes-requires-2
+put_bytes_requires_2 : tie.Need-put_bytes-parted-requires
 put_bytes_requires_2 c κs = search rules
 
-put_ended_requires : tie.Need-put-ended-requires
+put_ended_requires : tie.Need-put_ended-requires
 put_ended_requires c κs = search rules
 
-same_length : tie.Need-same-length
+same_length : tie.Need-shape_of-out
 same_length c = search rules
 
 returns : tie.Need-returns
@@ -76,8 +76,8 @@ returns c =
     let one = first_put parted in
     let opened = opening_put one in
     let s = start opened.before in
-    line_put s.args.opening.now s.args.first s.args.between.now s.args.second s.pre s.good.1.1.1.1.0.1
-    opened.put-bytes.ensures one.put-number.ensures parted.put-bytes2.ensures two.put_ended.ensures
+    line_put s.args.opening.now s.args.first s.args.between.now s.args.second s.requires s.well_formed.1.1.1.1.0.1
+    opened.put_bytes-opened.ensures one.put_number-one.ensures parted.put_bytes-parted.ensures two.put_ended.ensures
 
 pub put_line_spec : {M : Type 1} → statement M
 put_line_spec =

@@ -21,16 +21,16 @@ unfolding flat_text
 size_of_flat v c ws p q r = omega (arith, length-append (header_line v c) (words_text ws))
 
 -- The points: the size is known, the text fits, its header is put.
-abbrev start : tie.After-sum → tie.Start
+abbrev start : tie.After-sum-needed → tie.Start
 start c = c.before.before.before.before
 
-abbrev entry : tie.Else1 → tie.Start
+abbrev entry : tie.Else-out-needed → tie.Start
 entry c = start c.before
 
-abbrev fitting : tie.After-put-line → tie.Else1
-fitting c = c.before.before.before.before
+abbrev fitting : tie.After-put_line-next → tie.Else-out-needed
+fitting c = c.before.before.before.before.before.before
 
-abbrev header_put : tie.After-put-words → tie.After-put-line
+abbrev header_put : tie.After-put_words → tie.After-put_line-next
 header_put c = c.before.before.before.before
 
 -- The text, and its two parts.
@@ -43,61 +43,55 @@ words c = words_text c.args.cnf.now
 abbrev text : tie.Start → List ℕ
 text c = flat_text c.args.variables c.args.clauses c.args.cnf.now
 
-header_size_requires : tie.Need-header-size-requires
+header_size_requires : tie.Need-header_size-requires
 header_size_requires c κs = search rules
 
-words_size_requires : tie.Need-words-size-requires
+words_size_requires : tie.Need-words_size-requires
 words_size_requires c κs = search rules
 
-sum_requires : tie.Need-sum-requires
+sum_requires : tie.Need-sum-needed-requires
 sum_requires c κs = search rules
 
-needed : (c : tie.After-sum) → c.sum.result ≡ size (text (start c))
+needed : (c : tie.After-sum-needed) → c.sum-needed.result ≡ size (text (start c))
 needed c =
     let args = (start c).args in
-    size_of_flat args.variables args.clauses args.cnf.now c.before.before.header_size.ensures c.before.words_size.ensures c.sum.ensures
+    size_of_flat args.variables args.clauses args.cnf.now c.header_size.ensures c.words_size.ensures c.sum-needed.ensures
 
-returns : tie.Need-returns
+returns : tie.Need-returns-then-out-needed
 returns c =
     let s = start c.before in
-    prints_short (text s) s.args.out.now c.before.sum.result (needed c.before) c.if1.true
-
-slice_aggregate_put_line : tie.Need-slice-aggregate-put-line
-slice_aggregate_put_line c = search rules
-
-slice_aggregate_put_line_2 : tie.Need-slice-aggregate-put-line-2
-slice_aggregate_put_line_2 c = search rules
+    prints_short (text s) s.args.out.now c.sum-needed.result (needed c.before) c.if-out-needed.true
 
 -- What is left where the text fits.
-fits : (c : tie.Else1) → length (text (entry c)) ≤ length (entry c).args.out.now
+fits : (c : tie.Else-out-needed) → length (text (entry c)) ≤ length (entry c).args.out.now
 fits c =
     let s = entry c in
-    fits_by_size (text s) s.args.out.now c.before.sum.result (needed c.before) c.if1.false s.good.1.1.1.0.1
+    fits_by_size (text s) s.args.out.now c.sum-needed.result (needed c.before) c.if-out-needed.false s.well_formed.1.1.1.0.1
 
-fits_both : (c : tie.Else1) → 0 + length (header (entry c) ++ words (entry c)) ≤ length (entry c).args.out.now
+fits_both : (c : tie.Else-out-needed) → 0 + length (header (entry c) ++ words (entry c)) ≤ length (entry c).args.out.now
 unfolding flat_text
 fits_both c = omega (arith, fits c)
 
-fits_header : (c : tie.Else1) → 0 + length (header (entry c)) ≤ length (entry c).args.out.now
+fits_header : (c : tie.Else-out-needed) → 0 + length (header (entry c)) ≤ length (entry c).args.out.now
 fits_header c = omega (arith, fits_both c, length-append (header (entry c)) (words (entry c)))
 
-put_line_requires : tie.Need-put-line-requires
-put_line_requires c κs = omega (arith, fits_header c.before.before.before)
+put_line_requires : tie.Need-put_line-next-requires
+put_line_requires c κs = omega (arith, fits_header c.before.before.before.before.before)
 
-put_words_requires : tie.Need-put-words-requires
+put_words_requires : tie.Need-put_words-requires
 put_words_requires c κs =
     let put = c.before.before.before in
-    room_next (words (entry (fitting put))) (fits_both (fitting put)) put.put-line.ensures
+    room_next (words (entry (fitting put))) (fits_both (fitting put)) put.put_line-next.ensures
 
-same_length : tie.Need-same-length
+same_length : tie.Need-shape_of-out
 same_length c = search rules
 
-returns_2 : tie.Need-returns-2
+returns_2 : tie.Need-returns
 unfolding flat_text
 returns_2 c =
     let put = header_put c.before.before in
     let room = fitting put in
-    prints_bytes (fits room) (put_then (fits_header room) put.put-line.ensures c.before.before.put-words.ensures)
+    prints_bytes (fits room) (put_then (fits_header room) put.put_line-next.ensures c.put_words.ensures)
 
 pub cnf_text_spec : {M : Type 1} → statement M
 cnf_text_spec =
@@ -107,8 +101,6 @@ cnf_text_spec =
     words_size_requires
     sum_requires
     returns
-    slice_aggregate_put_line
-    slice_aggregate_put_line_2
     put_line_requires
     put_words_requires
     same_length

@@ -14,17 +14,17 @@ digits_requires_2 : tie.Need-digits-requires-2
 digits_requires_2 c κs = search rules
 
 -- Each number has few digits.
-few : (c : tie.After-digits2) → (c.before.digits.result ≤ 20) × (c.digits2.result ≤ 20)
-few c = omega (arith, c.before.digits.ensures, c.digits2.ensures, length_64_bits c.before.before.args.variables (omega arith), length_64_bits c.before.before.args.clauses (omega arith))
+few : (c : tie.After-digits-2) → (c.digits.result ≤ 20) × (c.digits-2.result ≤ 20)
+few c = omega (arith, c.digits.ensures, c.digits-2.ensures, length_64_bits c.args.variables (omega arith), length_64_bits c.args.clauses (omega arith))
 
-add_result : tie.Need-overflow-add-result
+add_result : tie.Need-overflow_add-result
 add_result c = omega (arith, few c)
 
-add_result_2 : tie.Need-overflow-add-result-2
+add_result_2 : tie.Need-overflow_add-result-2
 add_result_2 c = omega (arith, few c)
 
 returns : tie.Need-returns
-returns c = omega (arith, length_header c.before.before.args.variables c.before.before.args.clauses)
+returns c = omega (arith, length_header c.args.variables c.args.clauses)
 
 pub header_size_spec : {M : Type 1} → statement M
 header_size_spec =

@@ -14,17 +14,17 @@ digits_requires_2 : tie.Need-digits-requires-2
 digits_requires_2 c κs = search rules
 
 -- Each number has few digits.
-few : (c : tie.After-digits2) → (c.before.digits.result ≤ 20) × (c.digits2.result ≤ 20)
-few c = omega (arith, c.before.digits.ensures, c.digits2.ensures, length_64_bits c.before.before.args.number (omega arith), length_64_bits c.before.before.args.place (omega arith))
+few : (c : tie.After-digits-2) → (c.digits.result ≤ 20) × (c.digits-2.result ≤ 20)
+few c = omega (arith, c.digits.ensures, c.digits-2.ensures, length_64_bits c.args.number (omega arith), length_64_bits c.args.place (omega arith))
 
-add_result : tie.Need-overflow-add-result
+add_result : tie.Need-overflow_add-result
 add_result c = omega (arith, few c)
 
-add_result_2 : tie.Need-overflow-add-result-2
+add_result_2 : tie.Need-overflow_add-result-2
 add_result_2 c = omega (arith, few c)
 
 returns : tie.Need-returns
-returns c = omega (arith, length_refusal c.before.before.args.number c.before.before.args.place)
+returns c = omega (arith, length_refusal c.args.number c.args.place)
 
 pub refusal_size_spec : {M : Type 1} → statement M
 refusal_size_spec =

@@ -12,55 +12,55 @@ use Rattle.job_file.proofs.WordsText.{size_more}
 use Rattle.job_file.proofs.texts.words_size.Statement.{statement}
 use Rattle.job_file.proofs.texts.words_size.Tie as tie
 
-abbrev invariant_loop : tie.invariant_loop
+abbrev invariant_loop : tie.invariant-loop-i
 invariant_loop cnf bytes₀ i₀ bytes i = (i ≤ length cnf) × (bytes ≡ size (words_text (take i cnf)))
 
-abbrev decreases_loop : tie.decreases_loop
+abbrev decreases_loop : tie.decreases-loop-i
 decreases_loop cnf bytes₀ i₀ bytes i = length cnf - i
 
 -- The point: a turn of the loop begins.
-abbrev turn : tie.After-word-size-arg invariant_loop decreases_loop → tie.At-loop invariant_loop decreases_loop
+abbrev turn : tie.After-word_size-arg-1 invariant_loop decreases_loop → tie.At-loop-i invariant_loop decreases_loop
 turn c = c.before.before
 
-loop_holds : tie.Need-loop-init invariant_loop decreases_loop
+loop_holds : tie.Need-loop-i-init invariant_loop decreases_loop
 loop_holds c = omega arith
 
-mul_word_size : tie.Need-overflow-mul-word-size invariant_loop decreases_loop
+mul_word_size : tie.Need-offset_bounds-cnf-i invariant_loop decreases_loop
 mul_word_size c = omega arith
 
-shared_slice_copy_out_word_size : tie.Need-shared-slice-copy-out-word-size invariant_loop decreases_loop
+shared_slice_copy_out_word_size : tie.Need-bounds-cnf-i invariant_loop decreases_loop
 shared_slice_copy_out_word_size c = omega arith
 
-word_size_requires : tie.Need-word-size-requires invariant_loop decreases_loop
+word_size_requires : tie.Need-word_size-requires invariant_loop decreases_loop
 word_size_requires c κs = tt
 
-sum_requires : tie.Need-sum-requires invariant_loop decreases_loop
+sum_requires : tie.Need-sum-bytes-requires invariant_loop decreases_loop
 sum_requires c κs = tt
 
-add_i : tie.Need-overflow-add-i invariant_loop decreases_loop
+add_i : tie.Need-overflow_add-i invariant_loop decreases_loop
 add_i c = omega arith
 
-loop_less : tie.Need-loop-smaller invariant_loop decreases_loop
+loop_less : tie.Need-loop-i-smaller invariant_loop decreases_loop
 loop_less c = omega arith
 
-loop_again : tie.Need-loop-preserved invariant_loop decreases_loop
+loop_again : tie.Need-loop-i-preserved invariant_loop decreases_loop
 loop_again c =
     let read = c.before.before in
     let t = turn read in
-    let cnf = t.before.args.cnf.now in
-    let word = word_is (get_or cnf t.loop.i (pos 0)) (record { sfits = read.word-size-arg.given }) in (
+    let cnf = t.args.cnf.now in
+    let word = word_is (get_or cnf t.loop-i.i (pos 0)) (record { sfits = read.word_size-arg-1.given }) in (
       omega arith,
-      c.sum.ensures
-          ∙ size_more cnf t.loop.i read.before.loop_test.true t.loop.bytes c.before.word_size.result t.loop.inv.1
-          (c.before.word_size.ensures ∙ ap (λ w. length (word_text w)) word),
+      c.sum-bytes.ensures
+          ∙ size_more cnf t.loop-i.i read.loop-i-test.true t.loop-i.bytes c.word_size.result t.loop-i.invariant.1
+          (c.word_size.ensures ∙ ap (λ w. length (word_text w)) word),
     )
 
 returns : tie.Need-returns invariant_loop decreases_loop
 returns c =
-    let cnf = c.before.before.args.cnf.now in
-    let ended : c.before.loop.i ≡ length cnf = omega arith in
-    let all : take c.before.loop.i cnf ≡ cnf = rw (ended, take-length) in
-    rw all at c.before.loop.invariant.1
+    let cnf = c.args.cnf.now in
+    let ended : c.loop-i.i ≡ length cnf = omega arith in
+    let all : take c.loop-i.i cnf ≡ cnf = rw (ended, take-length) in
+    rw all at c.loop-i.invariant.1
 
 pub words_size_spec : {M : Type 1} → statement M
 words_size_spec =

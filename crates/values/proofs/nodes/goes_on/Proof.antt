@@ -21,20 +21,20 @@ false_if_other (Next a) h = refl
 false_if_other (Until a b) h = absurd (miss others 4 tt h)
 false_if_other (Release a b) h = absurd (miss others 5 tt h)
 
-enum_told : tie.Need-enum-told
+enum_told : tie.Need-enum_told-1
 enum_told c = search rules
 
-enum_told_2 : tie.Need-enum-told-2
+enum_told_2 : tie.Need-enum_told-in-Release
 enum_told_2 c = search rules
 
-returns : tie.Need-returns
+returns : tie.Need-returns-in-Until
 returns c = search rules
 
-returns_2 : tie.Need-returns-2
+returns_2 : tie.Need-returns-in-Release
 returns_2 c = search rules
 
-returns_3 : tie.Need-returns-3
-returns_3 c = false_if_other c.before.args.node c.match.keys3
+returns_3 : tie.Need-returns-in_default
+returns_3 c = false_if_other c.args.node c.in_default.in_default-own.keys3
 
 pub goes_on_spec : {M : Type 1} → statement M
 goes_on_spec = tie.close (tie.spec enum_told enum_told_2 returns returns_2 returns_3)

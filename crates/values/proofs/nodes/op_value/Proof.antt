@@ -9,7 +9,7 @@ use Rattle.values.proofs.nodes.op_value.Tie as tie
 
 -- ════════ The points ════════
 
-abbrev start : tie.After-shared-slice-known2 → tie.Start
+abbrev start : tie.After-shared_slice_known-2-1 → tie.Start
 start c = c.before.before
 
 -- The children of the op that the node is.
@@ -18,98 +18,98 @@ children c e = subst (λ (x : Node). Earlier c.requires.n (node_read x)) e c.req
 
 -- ════════ The needs ════════
 
-enum_known_node : tie.Need-enum-known-node
+enum_known_node : tie.Need-enum_known-node
 enum_known_node c = search rules
 
-atom_value_requires : tie.Need-atom-value-requires
+atom_value_requires : tie.Need-atom_value-requires
 atom_value_requires c κs = search rules
 
-enum_known_node_2 : tie.Need-enum-known-node-2
+enum_known_node_2 : tie.Need-enum_known-node-in-Both-1
 enum_known_node_2 c = search rules
 
-value_at_requires : tie.Need-value-at-requires
+value_at_requires : tie.Need-value_at-requires
 value_at_requires c κs =
-    let x = c.before in
-    let s = start x.before.before in
-    child_there s.pre (children s x.node2.given.1).0
+    let x = c in
+    let s = start x.before in
+    child_there s.requires (children s x.in-Both.is).0
 
-value_at_requires_2 : tie.Need-value-at-requires-2
+value_at_requires_2 : tie.Need-value_at-requires-in-Both
 value_at_requires_2 c κs =
-    let x = c.before.before in
-    let s = start x.before.before in
-    child_there s.pre (children s x.node2.given.1).1
+    let x = c.before in
+    let s = start x.before in
+    child_there s.requires (children s x.in-Both.is).1
 
-enum_known_node_3 : tie.Need-enum-known-node-3
+enum_known_node_3 : tie.Need-enum_known-node-in-Either-1
 enum_known_node_3 c = search rules
 
-value_at_requires_3 : tie.Need-value-at-requires-3
+value_at_requires_3 : tie.Need-value_at-requires-in-Either
 value_at_requires_3 c κs =
-    let x = c.before in
-    let s = start x.before.before in
-    child_there s.pre (children s x.node3.given.1).0
+    let x = c in
+    let s = start x.before in
+    child_there s.requires (children s x.in-Either.is).0
 
-value_at_requires_4 : tie.Need-value-at-requires-4
+value_at_requires_4 : tie.Need-value_at-requires-in-Either-2
 value_at_requires_4 c κs =
-    let x = c.before.before in
-    let s = start x.before.before in
-    child_there s.pre (children s x.node3.given.1).1
+    let x = c.before in
+    let s = start x.before in
+    child_there s.requires (children s x.in-Either.is).1
 
-enum_known_node_4 : tie.Need-enum-known-node-4
+enum_known_node_4 : tie.Need-enum_known-node-in-Next-1
 enum_known_node_4 c = search rules
 
-next_value_requires : tie.Need-next-value-requires
+next_value_requires : tie.Need-next_value-requires
 next_value_requires c κs =
-    let x = c.before in
-    let s = start x.before.before in
-    ((child_there s.pre (children s x.node4.given.1)).0, s.pre.ready.span_right)
+    let x = c in
+    let s = start x.before in
+    ((child_there s.requires (children s x.in-Next.is)).0, s.requires.ready.span_right)
 
-enum_known_node_5 : tie.Need-enum-known-node-5
+enum_known_node_5 : tie.Need-enum_known-node-in-Until-1
 enum_known_node_5 c = search rules
 
-value_at_requires_5 : tie.Need-value-at-requires-5
+value_at_requires_5 : tie.Need-value_at-requires-in-Until
 value_at_requires_5 c κs =
-    let x = c.before in
-    let s = start x.before.before in
-    child_there s.pre (children s x.node5.given.1).1
+    let x = c in
+    let s = start x.before in
+    child_there s.requires (children s x.in-Until.is).1
 
-left_value_requires : tie.Need-left-value-requires
+left_value_requires : tie.Need-left_value-requires
 left_value_requires c κs =
-    let x = c.before.before in
-    let s = start x.before.before in
-    left_there s.pre (left_of x.node5.given.0.0) (children s x.node5.given.1).0
+    let x = c.before in
+    let s = start x.before in
+    left_there s.requires (left_of x.in-Until.a) (children s x.in-Until.is).0
 
-enum_known_node_6 : tie.Need-enum-known-node-6
+enum_known_node_6 : tie.Need-enum_known-node-in-Release-1
 enum_known_node_6 c = search rules
 
-value_at_requires_6 : tie.Need-value-at-requires-6
+value_at_requires_6 : tie.Need-value_at-requires-in-Release
 value_at_requires_6 c κs =
-    let x = c.before in
-    let s = start x.before.before in
-    child_there s.pre (children s x.node6.given.1).1
+    let x = c in
+    let s = start x.before in
+    child_there s.requires (children s x.in-Release.is).1
 
-left_value_requires_2 : tie.Need-left-value-requires-2
+left_value_requires_2 : tie.Need-left_value-requires-in-Release
 left_value_requires_2 c κs =
-    let x = c.before.before in
-    let s = start x.before.before in
-    left_there s.pre (left_of x.node6.given.0.0) (children s x.node6.given.1).0
+    let x = c.before in
+    let s = start x.before in
+    left_there s.requires (left_of x.in-Release.a) (children s x.in-Release.is).0
 
-returns : tie.Need-returns
-returns c = rw c.before.before.node.given.1 c.atom-value.ensures
+returns : tie.Need-returns-in-Atom
+returns c = rw c.in-Atom.is c.atom_value.ensures
 
-returns_2 : tie.Need-returns-2
-returns_2 c = rw (c.before.before.before.node2.given.1, c.before.value-at.ensures, c.value-at2.ensures)
+returns_2 : tie.Need-returns-in-Both
+returns_2 c = rw (c.in-Both.is, c.value_at.ensures, c.value_at-in-Both.ensures)
 
-returns_3 : tie.Need-returns-3
-returns_3 c = rw (c.before.before.before.node3.given.1, c.before.value-at3.ensures, c.value-at4.ensures)
+returns_3 : tie.Need-returns-in-Either
+returns_3 c = rw (c.in-Either.is, c.value_at-in-Either.ensures, c.value_at-in-Either-2.ensures)
 
-returns_4 : tie.Need-returns-4
-returns_4 c = rw c.before.before.node4.given.1 c.next_value.ensures
+returns_4 : tie.Need-returns-in-Next
+returns_4 c = rw c.in-Next.is c.next_value.ensures
 
-returns_5 : tie.Need-returns-5
-returns_5 c = rw (c.before.before.before.node5.given.1, c.before.value-at5.ensures, c.left_value.ensures)
+returns_5 : tie.Need-returns-in-Until
+returns_5 c = rw (c.in-Until.is, c.value_at-in-Until.ensures, c.left_value.ensures)
 
-returns_6 : tie.Need-returns-6
-returns_6 c = rw (c.before.before.before.node6.given.1, c.before.value-at6.ensures, c.left-value2.ensures)
+returns_6 : tie.Need-returns-in-Release
+returns_6 c = rw (c.in-Release.is, c.value_at-in-Release.ensures, c.left_value-in-Release.ensures)
 
 pub op_value_spec : {M : Type 1} → statement M
 op_value_spec =

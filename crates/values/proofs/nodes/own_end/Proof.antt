@@ -6,39 +6,39 @@ use Rattle.values.proofs.nodes.own_end.Tie as tie
 
 -- ════════ The points ════════
 
-abbrev start : tie.After-goes-on → tie.Start
+abbrev start : tie.After-goes_on → tie.Start
 start c = c.before.before.before
 
-abbrev pass_of : tie.After-end-value → tie.After-pass
-pass_of c = c.before.before.before.before
+abbrev pass_of : tie.After-end_value → tie.After-pass
+pass_of c = c.before.before.before
 
 -- ════════ The needs ════════
 
-goes_on_requires : tie.Need-goes-on-requires
+goes_on_requires : tie.Need-goes_on-requires
 goes_on_requires c κs = search rules
 
-second_end_requires : tie.Need-second-end-requires
+second_end_requires : tie.Need-second_end-requires
 second_end_requires c κs = search rules
 
 pass_requires : tie.Need-pass-requires
 pass_requires c κs = search rules
 
-end_value_requires : tie.Need-end-value-requires
+end_value_requires : tie.Need-end_value-requires
 end_value_requires c κs = search rules
 
-same_length : tie.Need-same-length
+same_length : tie.Need-shape_of-t-then-lasso-goes_on
 same_length c = search rules
 
-returns : tie.Need-returns
+returns : tie.Need-returns-then-lasso-goes_on
 returns c =
     let pass = pass_of c in
     let ends = pass.before.before in
-    end_found (start ends.before.before).requires.span_right ends.second-end.ensures pass.pass.ensures c.end-value.ensures
+    end_found (start ends.before.before).requires.span_right ends.second_end.ensures pass.pass.ensures c.end_value.ensures
 
-returns_2 : tie.Need-returns-2
+returns_2 : tie.Need-returns
 returns_2 c =
     let goes = c.before in
-    end_unread (ap (λ b. (start goes).args.span.lasso && b) (sym goes.goes_on.ensures) ∙ c.if1.false)
+    end_unread (ap (λ b. (start goes).args.span.lasso && b) (sym goes.goes_on.ensures) ∙ c.if-lasso-goes_on.false)
 
 pub own_end_spec : {M : Type 1} → statement M
 own_end_spec =

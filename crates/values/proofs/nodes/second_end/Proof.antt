@@ -22,14 +22,14 @@ false_unless_last (Next a) h = refl
 false_unless_last (Until a b) h = refl
 false_unless_last (Release a b) h = absurd (miss others 5 tt h)
 
-enum_told : tie.Need-enum-told
+enum_told : tie.Need-enum_told-1
 enum_told c = search rules
 
-returns : tie.Need-returns
+returns : tie.Need-returns-in-Release
 returns c = search rules
 
-returns_2 : tie.Need-returns-2
-returns_2 c = false_unless_last c.before.args.node c.match.keys2
+returns_2 : tie.Need-returns-in_default
+returns_2 c = false_unless_last c.args.node c.in_default.in_default-own.keys2
 
 pub second_end_spec : {M : Type 1} → statement M
 second_end_spec = tie.close (tie.spec enum_told returns returns_2)

@@ -6,15 +6,15 @@ use Rattle.values.proofs.NodeTable.{place_within}
 use Rattle.values.proofs.nodes.value_at.Statement.{statement}
 use Rattle.values.proofs.nodes.value_at.Tie as tie
 
-mul_result : tie.Need-overflow-mul-result
+mul_result : tie.Need-overflow_mul-result
 mul_result c = search rules
 
-add_result : tie.Need-overflow-add-result
+add_result : tie.Need-overflow_add-result
 add_result c = search rules
 
-shared_slice_read_result : tie.Need-shared-slice-read-result
+shared_slice_read_result : tie.Need-bounds-t-n
 unfolding positions_limit bound_limit
-shared_slice_read_result c = place_within c.before.requires.0 c.before.requires.1
+shared_slice_read_result c = place_within c.requires.0 c.requires.1
 
 returns : tie.Need-returns
 unfolding positions_limit bound_limit

@@ -16,20 +16,20 @@ turned_false : (sign : Bool) → sign ≡ turned sign false
 turned_false true = refl
 turned_false false = refl
 
-cast_v : tie.Need-overflow-cast-v
+cast_v : tie.Need-overflow_cast-v
 cast_v c = search rules
 
-shared_slice_read_result : tie.Need-shared-slice-read-result
+shared_slice_read_result : tie.Need-bounds-row-v
 shared_slice_read_result c = search rules
 
-returns : tie.Need-returns
+returns : tie.Need-returns-then-v-row
 returns c =
-    let start = c.before.before.args in
+    let start = c.args in
     turned_differs (get_or start.row.now (start.x / 2) false) (odd start.x)
 
-returns_2 : tie.Need-returns-2
+returns_2 : tie.Need-returns-else-v-row
 returns_2 c =
-    let start = c.before.args in
+    let start = c.args in
     rw (get_or-eq_default start.row.now false {n = start.x / 2} (omega arith)) (turned_false (odd start.x))
 
 pub literal_spec : {M : Type 1} → statement M

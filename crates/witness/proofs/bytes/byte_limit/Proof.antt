@@ -14,18 +14,18 @@ limit_later : (p : Problem) (i : ℕ) → (i ≡ 0 → ⊥) → 1 ≡ byte_limit
 limit_later p zero some = absurd (some refl)
 limit_later p (suc i) some = refl
 
-add_result : tie.Need-overflow-add-result
+add_result : tie.Need-overflow_add-result
 unfolding bound_limit
 add_result c = omega arith
 
-cast_result : tie.Need-overflow-cast-result
+cast_result : tie.Need-overflow_cast-result
 cast_result c = search rules
 
-returns : tie.Need-returns
-returns c = λ ws. rw (c.before.if1.true, (shows c.before.before.args.s ws).bound_is)
+returns : tie.Need-returns-then-i-eq0
+returns c = λ ws. rw (c.if-i-eq0.true, (shows c.args.s ws).bound_is)
 
-returns_2 : tie.Need-returns-2
-returns_2 c = λ ws. limit_later _ c.before.args.i c.if1.false
+returns_2 : tie.Need-returns-else-i-eq0
+returns_2 c = λ ws. limit_later _ c.args.i c.if-i-eq0.false
 
 pub byte_limit_spec : {M : Type 1} → statement M
 byte_limit_spec = tie.close (tie.spec add_result cast_result returns returns_2)

@@ -11,26 +11,26 @@ use Rattle.witness.proofs.Checks.{none_yet, fail_one, after_one}
 use Rattle.witness.proofs.bytes.bytes_right.Statement.{statement}
 use Rattle.witness.proofs.bytes.bytes_right.Tie as tie
 
-abbrev start : tie.After-witness-length → tie.Start
+abbrev start : tie.After-witness_length → tie.Start
 start c = c.before.before
 
 -- Within the limits the length is the witness's.
-length_at : (c : tie.After-witness-length) (ws : List ℕ) → c.witness_length.result ≡ witness_length (problem_in (start c).args.s ws)
+length_at : (c : tie.After-witness_length) (ws : List ℕ) → c.witness_length.result ≡ witness_length (problem_in (start c).args.s ws)
 length_at c ws =
     let pre = (start c).requires in
     c.witness_length.ensures ∙ length_is (start c).args.s pre.0 pre.1 pre.2 ws
 
-witness_length_requires : tie.Need-witness-length-requires
+witness_length_requires : tie.Need-witness_length-requires
 witness_length_requires c κs = search rules
 
-returns : tie.Need-returns
-returns c = λ ws. fail_one none_yet refl (ne_eqb _ _ (λ e. c.if1.true (e ∙ sym (length_at c.before ws)))) (λ after. refl)
+returns : tie.Need-returns-then-witness-witness_length
+returns c = λ ws. fail_one none_yet refl (ne_eqb _ _ (λ e. c.if-witness-witness_length.true (e ∙ sym (length_at c.before ws)))) (λ after. refl)
 
-each_byte_requires : tie.Need-each-byte-requires
+each_byte_requires : tie.Need-each_byte-requires
 each_byte_requires c κs = search rules
 
-returns_2 : tie.Need-returns-2
-returns_2 c = λ ws. after_one (eq-eqb _ _ (c.before.if1.false ∙ length_at c.before.before ws)) (c.each-byte.ensures ws)
+returns_2 : tie.Need-returns
+returns_2 c = λ ws. after_one (eq-eqb _ _ (c.if-witness-witness_length.false ∙ length_at c.before.before ws)) (c.each_byte.ensures ws)
 
 pub bytes_right_spec : {M : Type 1} → statement M
 bytes_right_spec =

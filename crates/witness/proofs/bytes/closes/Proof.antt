@@ -26,13 +26,13 @@ use Rattle.witness.proofs.bytes.closes.Tie as tie
 
 -- ════════ The points ════════
 
-abbrev start : tie.Else1 → tie.Start
+abbrev start : tie.Else-first-eq0 → tie.Start
 start c = c.before.before.before.before.before
 
-abbrev later : tie.After-first-open → tie.Else1
+abbrev later : tie.After-first_open-open → tie.Else-first-eq0
 later c = c.before.before.before.before
 
-abbrev begin : tie.After-first-open → tie.Start
+abbrev begin : tie.After-first_open-open → tie.Start
 begin c = start (later c)
 
 sizes : (c : tie.Start) → Shows c.args.s (problem_in c.args.s c.args.words.now)
@@ -58,7 +58,7 @@ module _ (c : tie.Start) where
 
 -- ════════ The latches ════════
 
-module _ (c : tie.After-first-open) where
+module _ (c : tie.After-first_open-open) where
   -- What is compared is what document 01 checks.
   same : (i : ℕ) → i < many (begin c)
       → closed_at (problem_at (begin c)) (row_in (begin c).args.table.now (begin c).args.s.bound) (begin c).args.table.now
@@ -68,104 +68,104 @@ module _ (c : tie.After-first-open) where
       let s = begin c in
       let z = sizes s in
       let here : i < s.args.s.latches = omega arith in
-      ap₂ beq (next_at_end s.pre i here)
-      (latch_there s.pre (first_byte s - 1) i (omega (arith, s.pre.start_within)) here)
+      ap₂ beq (next_at_end s.requires i here)
+      (latch_there s.requires (first_byte s - 1) i (omega (arith, s.requires.start_within)) here)
 
   first : FirstNot
       (closed_at (problem_at (begin c)) (row_in (begin c).args.table.now (begin c).args.s.bound) (begin c).args.table.now
-      ((first_byte (begin c) - 1) * row_width + 1 + (begin c).args.s.inputs)) (many (begin c)) c.first_open.result
+      ((first_byte (begin c) - 1) * row_width + 1 + (begin c).args.s.inputs)) (many (begin c)) c.first_open-open.result
   unfolding first_open inputs_limit latches_limit gates_limit row_width
-  first = by_first _ _ (rw (lent ((begin c).args.s.bound * row_width)) at c.first_open.ensures)
+  first = by_first _ _ (rw (lent ((begin c).args.s.bound * row_width)) at c.first_open-open.ensures)
 
   -- The checks before it pass.
-  passed : PassedUpTo (map (loop_check (begin c)) (numbers 0 (many (begin c)))) (from_number (loop_check (begin c)) (many (begin c)) c.first_open.result)
+  passed : PassedUpTo (map (loop_check (begin c)) (numbers 0 (many (begin c)))) (from_number (loop_check (begin c)) (many (begin c)) c.first_open-open.result)
   passed =
-      passed_before (loop_check (begin c)) (many (begin c)) c.first_open.result first.within (λ j h.
+      passed_before (loop_check (begin c)) (many (begin c)) c.first_open-open.result first.within (λ j h.
       sym (same j (omega (arith, first.within))) ∙ first.passed j h)
 
 -- ════════ The needs ════════
 
-shared_slice_read_first : tie.Need-shared-slice-read-first
-shared_slice_read_first c = omega (arith, c.before.before.before.before.requires.long)
+shared_slice_read_first : tie.Need-bounds-witness-0
+shared_slice_read_first c = omega (arith, c.requires.long)
 
-cast_first : tie.Need-overflow-cast-first
-cast_first c = omega (arith, c.shared-slice-known4.given 0)
+cast_first : tie.Need-overflow_cast-first
+cast_first c = omega (arith, c.shared_slice_known-4-1.given 0)
 
-returns : tie.Need-returns
-returns c = rw c.if1.true (pass_all none_yet refl)
+returns : tie.Need-returns-then-first-eq0
+returns c = rw c.if-first-eq0.true (pass_all none_yet refl)
 
-cast_last : tie.Need-overflow-cast-last
+cast_last : tie.Need-overflow_cast-last
 cast_last c = search rules
 
-mul_last : tie.Need-overflow-mul-last
+mul_last : tie.Need-overflow_mul-last
 mul_last c = search rules
 
-add_end : tie.Need-overflow-add-end
+add_end : tie.Need-overflow_add-end
 add_end c = search rules
 
-sub_from : tie.Need-overflow-sub-from
-sub_from c = let some = c.before.if1.false in omega arith
+sub_from : tie.Need-overflow_sub-from
+sub_from c = let some = c.if-first-eq0.false in omega arith
 
-mul_from : tie.Need-overflow-mul-from
+mul_from : tie.Need-overflow_mul-from
 unfolding bound_limit
 mul_from c =
     let s = start c.before in
     let z = sizes s in
-    omega (arith, s.pre.good.proper, s.pre.start_within)
+    omega (arith, s.requires.good.proper, s.requires.start_within)
 
-add_from : tie.Need-overflow-add-from
+add_from : tie.Need-overflow_add-from
 unfolding bound_limit
 add_from c =
     let s = start c.before in
     let z = sizes s in
-    omega (arith, s.pre.good.proper, s.pre.start_within)
+    omega (arith, s.requires.good.proper, s.requires.start_within)
 
-cast_from : tie.Need-overflow-cast-from
+cast_from : tie.Need-overflow_cast-from
 cast_from c = search rules
 
-add_from_2 : tie.Need-overflow-add-from-2
+add_from_2 : tie.Need-overflow_add-from-2
 unfolding inputs_limit bound_limit
 add_from_2 c =
     let s = start c.before.before in
     let z = sizes s in
-    omega (arith, s.pre.good.proper, s.pre.start_within)
+    omega (arith, s.requires.good.proper, s.requires.start_within)
 
-sub_first_open : tie.Need-overflow-sub-first-open
+sub_first_open : tie.Need-slice_bounds-first_open-count
 sub_first_open c = search rules
 
-part_first_open_start : tie.Need-slice-bounds-first-open-start
+part_first_open_start : tie.Need-slice_bounds-first_open-start
 part_first_open_start c = search rules
 
-part_first_open_end : tie.Need-slice-bounds-first-open-end
+part_first_open_end : tie.Need-slice_bounds-first_open-end
 unfolding inputs_limit latches_limit gates_limit row_width bound_limit
 part_first_open_end c =
     let s = start c.before.before in
     let z = sizes s in
-    omega (arith, s.pre.good.proper, s.pre.right.room)
+    omega (arith, s.requires.good.proper, s.requires.right.room)
 
-first_open_requires : tie.Need-first-open-requires
+first_open_requires : tie.Need-first_open-open-requires
 first_open_requires c κs = search rules
 
-cast_t20 : tie.Need-overflow-cast-t20
+cast_t20 : tie.Need-overflow_cast-result
 cast_t20 c = search rules
 
-returns_2 : tie.Need-returns-2
+returns_2 : tie.Need-returns-then-open-s
 returns_2 c =
     let at = c.before.before in
     let s = begin at in
     let z = sizes s in
-    let l : at.first_open.result < many s = omega (arith, c.if2.true) in
-    rw (shape_later (first_byte s) (later at).if1.false)
-    (fail_one (passed at) (number_first (loop_check s) (many s) at.first_open.result l) (sym (same at at.first_open.result l) ∙ (first at).fails l)
+    let l : at.first_open-open.result < many s = omega (arith, c.if-open-s.true) in
+    rw (shape_later (first_byte s) (later at).if-first-eq0.false)
+    (fail_one (passed at) (number_first (loop_check s) (many s) at.first_open-open.result l) (sym (same at at.first_open-open.result l) ∙ (first at).fails l)
     (λ after. refl))
 
-returns_3 : tie.Need-returns-3
+returns_3 : tie.Need-returns
 returns_3 c =
     let at = c.before.before in
     let s = begin at in
     let z = sizes s in
-    rw (shape_later (first_byte s) (later at).if1.false)
-    (pass_all (passed at) (numbers_end (loop_check s) (many s) at.first_open.result (omega (arith, c.if2.false))))
+    rw (shape_later (first_byte s) (later at).if-first-eq0.false)
+    (pass_all (passed at) (numbers_end (loop_check s) (many s) at.first_open-open.result (omega (arith, c.if-open-s.false))))
 
 pub closes_spec : {M : Type 1} → statement M
 closes_spec =

@@ -29,52 +29,52 @@ module _ (f : ℕ → ℕ → Check) (bs : List ℕ) where
 
 -- ════════ The loop, and its points ════════
 
-abbrev invariant_loop : tie.invariant_loop
+abbrev invariant_loop : tie.invariant-loop-i
 invariant_loop s witness i₀ i =
     (ws : List ℕ) → PassedUpTo (numbered 0 witness (byte_check (problem_in s ws))) (from_byte (byte_check (problem_in s ws)) witness i)
 
-abbrev decreases_loop : tie.decreases_loop
+abbrev decreases_loop : tie.decreases-loop-i
 decreases_loop s witness i₀ i = length witness - i
 
-abbrev turn : tie.After-shared-slice-known2 invariant_loop decreases_loop → tie.In-loop invariant_loop decreases_loop
+abbrev turn : tie.After-shared_slice_known-in-loop-i-1 invariant_loop decreases_loop → tie.In-loop-i invariant_loop decreases_loop
 turn c = c.before.before
 
 -- ════════ The needs ════════
 
-loop_holds : tie.Need-loop-init invariant_loop decreases_loop
+loop_holds : tie.Need-loop-i-init invariant_loop decreases_loop
 loop_holds c = λ ws. none_yet
 
-byte_limit_requires : tie.Need-byte-limit-requires invariant_loop decreases_loop
-byte_limit_requires c κs = c.before.before.before.requires
+byte_limit_requires : tie.Need-byte_limit-requires invariant_loop decreases_loop
+byte_limit_requires c κs = c.requires
 
-shared_slice_read_if1 : tie.Need-shared-slice-read-if1 invariant_loop decreases_loop
+shared_slice_read_if1 : tie.Need-bounds-witness-i invariant_loop decreases_loop
 shared_slice_read_if1 c = omega arith
 
-cast_if1 : tie.Need-overflow-cast-if1 invariant_loop decreases_loop
-cast_if1 c = omega (arith, c.shared-slice-known2.given (turn c).before.loop.i)
+cast_if1 : tie.Need-overflow_cast-witness invariant_loop decreases_loop
+cast_if1 c = omega (arith, c.shared_slice_known-in-loop-i-1.given (turn c).loop-i.i)
 
-returns : tie.Need-returns invariant_loop decreases_loop
+returns : tie.Need-returns-then-byte_limit-witness invariant_loop decreases_loop
 returns c =
     λ ws.
     let t = turn c.before in
-    fail_one (t.before.loop.inv ws) (byte_first _ _ t.before.loop.i t.loop_test.taken)
-    (lt-leb _ _ (rw (c.before.before.byte_limit.ensures ws) at c.if1.true)) (λ after. refl)
+    fail_one (t.loop-i.invariant ws) (byte_first _ _ t.loop-i.i t.loop-i-test.true)
+    (lt-leb _ _ (rw (c.byte_limit.ensures ws) at c.if-byte_limit-witness.true)) (λ after. refl)
 
-add_i : tie.Need-overflow-add-i invariant_loop decreases_loop
+add_i : tie.Need-overflow_add-i invariant_loop decreases_loop
 add_i c = omega arith
 
-loop_less : tie.Need-loop-smaller invariant_loop decreases_loop
+loop_less : tie.Need-loop-i-smaller invariant_loop decreases_loop
 loop_less c = omega arith
 
-loop_again : tie.Need-loop-preserved invariant_loop decreases_loop
+loop_again : tie.Need-loop-i-preserved invariant_loop decreases_loop
 loop_again c =
     λ ws.
     let t = turn c.before in
-    pass_one (t.before.loop.inv ws) (byte_first _ _ t.before.loop.i t.loop_test.taken)
-    (le-leb _ _ (rw (c.before.before.byte_limit.ensures ws) at c.if1.false))
+    pass_one (t.loop-i.invariant ws) (byte_first _ _ t.loop-i.i t.loop-i-test.true)
+    (le-leb _ _ (rw (c.byte_limit.ensures ws) at c.if-byte_limit-witness.false))
 
-returns_2 : tie.Need-returns-2 invariant_loop decreases_loop
-returns_2 c = λ ws. pass_all (c.before.loop.invariant ws) (bytes_end _ _ c.before.loop.i c.loop_test.false)
+returns_2 : tie.Need-returns invariant_loop decreases_loop
+returns_2 c = λ ws. pass_all (c.loop-i.invariant ws) (bytes_end _ _ c.loop-i.i c.loop-i-test.false)
 
 pub each_byte_spec : {M : Type 1} → statement M
 each_byte_spec =

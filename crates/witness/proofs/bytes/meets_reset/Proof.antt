@@ -12,14 +12,14 @@ free zero b not_0 not-1 = absurd (not_0 refl)
 free (suc zero) b not_0 not-1 = absurd (not-1 refl)
 free (suc (suc r)) b not_0 not-1 = refl
 
-returns : tie.Need-returns
+returns : tie.Need-returns-in-0
 returns c = search rules
 
-returns_2 : tie.Need-returns-2
+returns_2 : tie.Need-returns-in-1
 returns_2 c = search rules
 
-returns_3 : tie.Need-returns-3
-returns_3 c = free c.before.args.reset c.before.args.value c.match.rest.0.1 c.match.rest.1
+returns_3 : tie.Need-returns-in_default
+returns_3 c = free c.args.reset c.args.value c.in_default.in_default-own.rest.0.1 c.in_default.in_default-own.rest.1
 
 pub meets_reset_spec : {M : Type 1} → statement M
 meets_reset_spec = tie.close (tie.spec returns returns_2 returns_3)

@@ -21,22 +21,22 @@ use Rattle.witness.proofs.bytes.resets.Tie as tie
 abbrev reset_check : Problem → List ℕ → ℕ → Check
 reset_check p bs i = check (meets_reset (latch p i).reset (get_or (first_latches p bs) i false)) (against_reset (1 + i))
 
-abbrev invariant_loop : tie.invariant_loop
+abbrev invariant_loop : tie.invariant-loop-i
 invariant_loop words s witness i₀ i =
     PassedUpTo (reset_checks (problem_in s words) witness) (from_number (reset_check (problem_in s words) witness) (length (problem_in s words).latches) i)
 
-abbrev decreases_loop : tie.decreases_loop
+abbrev decreases_loop : tie.decreases-loop-i
 decreases_loop words s witness i₀ i = s.latches - i
 
 -- ════════ The points ════════
 
-abbrev start : tie.At-loop invariant_loop decreases_loop → tie.Start invariant_loop decreases_loop
+abbrev start : tie.At-loop-i invariant_loop decreases_loop → tie.Start invariant_loop decreases_loop
 start l = l.before.before.before
 
-abbrev loop_of : tie.Then1 invariant_loop decreases_loop → tie.At-loop invariant_loop decreases_loop
+abbrev loop_of : tie.In-loop-i invariant_loop decreases_loop → tie.At-loop-i invariant_loop decreases_loop
 loop_of c = c.before.before
 
-abbrev turn : tie.After-meets-reset invariant_loop decreases_loop → tie.Then1 invariant_loop decreases_loop
+abbrev turn : tie.After-meets_reset invariant_loop decreases_loop → tie.In-loop-i invariant_loop decreases_loop
 turn c = c.before.before.before
 
 abbrev problem_at : tie.Start invariant_loop decreases_loop → Problem
@@ -48,61 +48,61 @@ sizes c = shows c.args.s c.args.words.now
 -- ════════ One latch ════════
 
 -- What the code tests is what document 01 checks.
-met : (c : tie.After-meets-reset invariant_loop decreases_loop)
+met : (c : tie.After-meets_reset invariant_loop decreases_loop)
     → c.meets_reset.result
-    ≡ (reset_check (problem_at (start (loop_of (turn c)))) (start (loop_of (turn c))).args.witness.now (loop_of (turn c)).loop.i).passes
+    ≡ (reset_check (problem_at (start (loop_of (turn c)))) (start (loop_of (turn c))).args.witness.now (loop_of (turn c)).loop-i.i).passes
 met c =
     let l = loop_of (turn c) in
     let s = start l in
     let z = sizes s in
-    let bit = bit_at s.args.witness.now 1 (length (problem_at s).latches) (omega arith) l.loop.i (omega arith) in
-    c.meets_reset.ensures ∙ ap₂ meets_reset c.before.before.latch-reset.ensures bit
+    let bit = bit_at s.args.witness.now 1 (length (problem_at s).latches) (omega arith) l.loop-i.i (omega arith) in
+    c.meets_reset.ensures ∙ ap₂ meets_reset c.latch_reset.ensures bit
 
 -- ════════ The needs ════════
 
-loop_holds : tie.Need-loop-init invariant_loop decreases_loop
+loop_holds : tie.Need-loop-i-init invariant_loop decreases_loop
 loop_holds c =
     let s = c.before.before in
     number_none (reset_check (problem_at s) s.args.witness.now) (length (problem_at s).latches)
 
-cast_at : tie.Need-overflow-cast-at invariant_loop decreases_loop
+cast_at : tie.Need-overflow_cast-at invariant_loop decreases_loop
 cast_at c = search rules
 
-add_at : tie.Need-overflow-add-at invariant_loop decreases_loop
+add_at : tie.Need-overflow_add-at invariant_loop decreases_loop
 add_at c = search rules
 
-latch_reset_requires : tie.Need-latch-reset-requires invariant_loop decreases_loop
+latch_reset_requires : tie.Need-latch_reset-requires invariant_loop decreases_loop
 latch_reset_requires c κs = tt
 
-shared_slice_read_meets_reset : tie.Need-shared-slice-read-meets-reset invariant_loop decreases_loop
+shared_slice_read_meets_reset : tie.Need-bounds-witness-at invariant_loop decreases_loop
 shared_slice_read_meets_reset c = let z = sizes (start (loop_of c.before.before)) in omega arith
 
-meets_reset_requires : tie.Need-meets-reset-requires invariant_loop decreases_loop
+meets_reset_requires : tie.Need-meets_reset-requires invariant_loop decreases_loop
 meets_reset_requires c κs = tt
 
-returns : tie.Need-returns invariant_loop decreases_loop
+returns : tie.Need-returns-then-not-meets_reset invariant_loop decreases_loop
 returns c =
     let l = loop_of (turn c.before) in
     let z = sizes (start l) in
-    fail_one l.loop.inv (number_first _ _ l.loop.i (omega arith)) (sym (met c.before) ∙ not-true _ c.if2.true) (λ after. refl)
+    fail_one l.loop-i.invariant (number_first _ _ l.loop-i.i (omega arith)) (sym (met c.before) ∙ not-true _ c.if-not-meets_reset.true-raw) (λ after. refl)
 
-add_i : tie.Need-overflow-add-i invariant_loop decreases_loop
+add_i : tie.Need-overflow_add-i invariant_loop decreases_loop
 add_i c = search rules
 
-loop_less : tie.Need-loop-smaller invariant_loop decreases_loop
+loop_less : tie.Need-loop-i-smaller invariant_loop decreases_loop
 loop_less c = omega arith
 
-loop_again : tie.Need-loop-preserved invariant_loop decreases_loop
+loop_again : tie.Need-loop-i-preserved invariant_loop decreases_loop
 loop_again c =
     let l = loop_of (turn c.before) in
     let z = sizes (start l) in
-    pass_one l.loop.inv (number_first _ _ l.loop.i (omega arith)) (sym (met c.before) ∙ not-false _ c.if2.false)
+    pass_one l.loop-i.invariant (number_first _ _ l.loop-i.i (omega arith)) (sym (met c.before) ∙ not-false _ c.if-not-meets_reset.false-raw)
 
-returns_2 : tie.Need-returns-2 invariant_loop decreases_loop
+returns_2 : tie.Need-returns invariant_loop decreases_loop
 returns_2 c =
     let l = c.before.before in
     let z = sizes (start l) in
-    pass_all l.loop.invariant (numbers_end _ _ l.loop.i (omega arith))
+    pass_all l.loop-i.invariant (numbers_end _ _ l.loop-i.i (omega arith))
 
 pub resets_spec : {M : Type 1} → statement M
 resets_spec =

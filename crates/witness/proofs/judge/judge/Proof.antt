@@ -10,42 +10,42 @@ use Rattle.witness.proofs.judge.judge.Tie as tie
 
 -- ════════ The points ════════
 
-abbrev start : tie.After-check → tie.Start
+abbrev start : tie.After-check-checked → tie.Start
 start c = c.before.before.before
 
-abbrev outlined : tie.After-s → tie.After-checked
-outlined c = c.before.before
+abbrev outlined : tie.After-s-1 → tie.In-Good
+outlined c = c.before
 
 -- In the first arm the problem is good, with the record that the match bound; in the second it is refused.
-good : (c : tie.After-checked)
-    → CheckedAs (start c.before.before).args.version (start c.before.before).args.words.now (Good c.checked.given.0.0)
-good c = rw c.checked.given.1 at c.before.before.check.ensures
+good : (c : tie.In-Good)
+    → CheckedAs (start c.before).args.version (start c.before).args.words.now (Good c.in-Good.g)
+good c = rw c.in-Good.is at c.check-checked.ensures
 
-refused : (c : tie.After-checked2)
-    → CheckedAs (start c.before.before).args.version (start c.before.before).args.words.now (Refused c.checked2.given.0.0)
-refused c = rw c.checked2.given.1 at c.before.before.check.ensures
+refused : (c : tie.In-Refused)
+    → CheckedAs (start c.before).args.version (start c.before).args.words.now (Refused c.in-Refused.f)
+refused c = rw c.in-Refused.is at c.check-checked.ensures
 
 -- ════════ The needs ════════
 
-check_requires : tie.Need-check-requires
+check_requires : tie.Need-check-checked-requires
 check_requires c κs = search rules
 
-enum_known_checked : tie.Need-enum-known-checked
+enum_known_checked : tie.Need-enum_known-checked
 enum_known_checked c = search rules
 
-judge_good_requires : tie.Need-judge-good-requires
+judge_good_requires : tie.Need-judge_good-requires
 judge_good_requires c κs = proper_if_good (good (outlined c))
 
-enum_known_checked_2 : tie.Need-enum-known-checked-2
+enum_known_checked_2 : tie.Need-enum_known-checked-in-Refused-1
 enum_known_checked_2 c = search rules
 
-returns : tie.Need-returns
+returns : tie.Need-returns-in-Good
 returns c =
     let arm = outlined c.before in
-    c.judge-good.ensures ∙ good_judged (good arm) (start arm.before.before).args.witness.now
+    c.judge_good.ensures ∙ good_judged (good arm) (start arm.before).args.witness.now
 
-returns_2 : tie.Need-returns-2
-returns_2 c = refused_judged (refused c.before) (start c.before.before.before).args.witness.now
+returns_2 : tie.Need-returns-in-Refused
+returns_2 c = refused_judged (refused c) (start c.before).args.witness.now
 
 pub judge_spec : {M : Type 1} → statement M
 judge_spec =

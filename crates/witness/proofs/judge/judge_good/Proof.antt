@@ -20,65 +20,65 @@ use Rattle.witness.proofs.judge.judge_good.Tie as tie
 
 -- ════════ The points ════════
 
-abbrev start : tie.After-bytes-right → tie.Start
+abbrev start : tie.After-bytes_right-by_bytes → tie.Start
 start c = c.before.before.before
 
-abbrev bytes_of : tie.After-resets → tie.At-match-keys1
-bytes_of c = c.before.before
+abbrev bytes_of : tie.After-resets-by_resets → tie.In-Yes
+bytes_of c = c.before
 
-abbrev resets_of : tie.After-table → tie.At-match2-keys1
-resets_of c = c.before.before
+abbrev resets_of : tie.After-table-1 → tie.In-Yes-by_resets
+resets_of c = c.before
 
-abbrev table_of : tie.After-table3 → tie.After-table
+abbrev table_of : tie.After-table-3-1 → tie.After-table-1
 table_of c = c.before.before.before
 
 -- ════════ What 7 says ════════
 
-module _ (c : tie.After-bytes-right) where
+module _ (c : tie.After-bytes_right-by_bytes) where
   abbrev problem_at : Problem
   problem_at = problem_in (start c).args.s (start c).args.words.now
 
   abbrev bytes : List ℕ
   bytes = (start c).args.witness.now
 
-  by_bytes : AnsweredBy (byte_checks problem_at bytes) c.bytes_right.result
-  by_bytes = c.bytes_right.ensures (start c).args.words.now
+  by_bytes : AnsweredBy (byte_checks problem_at bytes) c.bytes_right-by_bytes.result
+  by_bytes = c.bytes_right-by_bytes.ensures (start c).args.words.now
 
 -- Past the first test it said yes, and the witness has its length.
-bytes_yes : (c : tie.At-match-keys1) → c.before.bytes_right.result ≡ Yes
-bytes_yes c = yes_if_first c.before.bytes_right.result c.match.keys1
+bytes_yes : (c : tie.In-Yes) → c.bytes_right-by_bytes.result ≡ Yes
+bytes_yes c = yes_if_first c.bytes_right-by_bytes.result c.in-Yes.in-Yes-own.keys1
 
-long : (c : tie.At-match-keys1) → length (bytes c.before) ≡ witness_length (problem_at c.before)
+long : (c : tie.In-Yes) → length (bytes c.before) ≡ witness_length (problem_at c.before)
 long c = length_right (problem_at c.before) (bytes c.before) (bytes_yes c) (by_bytes c.before)
 
 -- ════════ The needs ════════
 
-bytes_right_requires : tie.Need-bytes-right-requires
+bytes_right_requires : tie.Need-bytes_right-by_bytes-requires
 bytes_right_requires c κs =
     let s = c.before.before in
     let z = shows s.args.s s.args.words.now in
     (omega (arith, s.requires.proper.inputs_within), omega (arith, s.requires.proper.latches_within), bound_small s.requires)
 
-enum_told : tie.Need-enum-told
+enum_told : tie.Need-enum_told-1
 enum_told c = search rules
 
-returns : tie.Need-returns
-returns c = judged _ _ (refused_first _ _ (refuses_if_later c.before.bytes_right.result c.match.keys2) (by_bytes c.before))
+returns : tie.Need-returns-in_default
+returns c = judged _ _ (refused_first _ _ (refuses_if_later c.bytes_right-by_bytes.result c.in_default.in_default-own.keys2) (by_bytes c.before))
 
-resets_requires : tie.Need-resets-requires
-resets_requires c κs = long c.before
+resets_requires : tie.Need-resets-by_resets-requires
+resets_requires c κs = long c
 
-enum_told_2 : tie.Need-enum-told-2
+enum_told_2 : tie.Need-enum_told-in-Yes-by_resets
 enum_told_2 c = search rules
 
-returns_2 : tie.Need-returns-2
+returns_2 : tie.Need-returns-in_default-by_resets
 returns_2 c =
     let b = bytes_of c.before in
     judged _ _
     (yes_first _ _ (bytes_yes b) (by_bytes b.before)
-    (refused_first _ _ (refuses_if_later c.before.resets.result c.match2.keys2) c.before.resets.ensures))
+    (refused_first _ _ (refuses_if_later c.resets-by_resets.result c.in_default-by_resets.in_default-by_resets-own.keys2) c.resets-by_resets.ensures))
 
-slice_aggregate_run : tie.Need-slice-aggregate-run
+slice_aggregate_run : tie.Need-slice_bounds-run-end
 slice_aggregate_run c = search rules
 
 run_requires : tie.Need-run-requires
@@ -87,7 +87,7 @@ run_requires c κs =
     let b = bytes_of (resets_of c).before in
     ((start b.before).requires, long b, length-replicate rows_room false)
 
-slice_aggregate_shown : tie.Need-slice-aggregate-shown
+slice_aggregate_shown : tie.Need-slice_bounds-shown-end
 slice_aggregate_shown c = search rules
 
 shown_requires : tie.Need-shown-requires
@@ -96,13 +96,13 @@ shown_requires c κs =
     let s = start b.before in
     let z = shows s.args.s s.args.words.now in
     record {
-      good = s.pre;
+      good = s.requires;
       long = long b;
       start_within = omega (arith, start_right (problem_at b.before) (bytes b.before) (bytes_yes b) (by_bytes b.before));
-      right = c.before.before.run.ensures;
+      right = c.run.ensures;
     }
 
-returns_3 : tie.Need-returns-3
+returns_3 : tie.Need-returns
 returns_3 c =
     let r = resets_of (table_of c.before) in
     let b = bytes_of r.before in
@@ -110,7 +110,7 @@ returns_3 c =
     let bs = bytes b.before in
     judged p bs
     (yes_first (byte_checks p bs) (from_resets p bs) (bytes_yes b) (by_bytes b.before)
-    (yes_first (reset_checks p bs) (from_loop p bs) (yes_if_first r.before.resets.result r.match2.keys1) r.before.resets.ensures
+    (yes_first (reset_checks p bs) (from_loop p bs) (yes_if_first r.resets-by_resets.result r.in-Yes-by_resets.in-Yes-by_resets-own.keys1) r.resets-by_resets.ensures
     c.shown.ensures))
 
 pub judge_good_spec : {M : Type 1} → statement M

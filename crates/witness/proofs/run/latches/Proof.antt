@@ -9,60 +9,60 @@ use Rattle.witness.proofs.run.latches.Tie as tie
 
 -- ════════ The points ════════
 
-abbrev start : tie.After-slice-known → tie.Start
+abbrev start : tie.After-slice_known-1 → tie.Start
 start c = c.before.before.before
 
-abbrev first_of : tie.After-struct-known2 → tie.Then1
+abbrev first_of : tie.After-struct_known-then-t-eq0-1 → tie.Then-t-eq0
 first_of c = c.before.before.before
 
-abbrev copied : tie.After-slice-known2 → tie.After-copy-bits
+abbrev copied : tie.After-slice_known-then-t-eq0-1 → tie.After-copy_bits
 copied c = c.before.before
 
-abbrev stepped : tie.After-slice-known3 → tie.After-later-latches
+abbrev stepped : tie.After-slice_known-else-t-eq0-1 → tie.After-later_latches
 stepped c = c.before.before
 
-abbrev later_of : tie.After-later-latches → tie.Else1
+abbrev later_of : tie.After-later_latches → tie.Else-t-eq0
 later_of c = c.before.before
 
 -- ════════ The needs ════════
 
-cast_copy_bits : tie.Need-overflow-cast-copy-bits
+cast_copy_bits : tie.Need-overflow_cast-s
 cast_copy_bits c = search rules
 
-add_copy_bits : tie.Need-overflow-add-copy-bits
+add_copy_bits : tie.Need-overflow_add-s
 add_copy_bits c = search rules
 
-cast_copy_bits_2 : tie.Need-overflow-cast-copy-bits-2
+cast_copy_bits_2 : tie.Need-overflow_cast-s-then-t-eq0
 cast_copy_bits_2 c = search rules
 
-copy_bits_requires : tie.Need-copy-bits-requires
+copy_bits_requires : tie.Need-copy_bits-requires
 unfolding inputs_limit latches_limit gates_limit row_width
 copy_bits_requires c κs = let there = row_room (start (first_of c).before).requires in (omega (arith, there), omega (arith, there))
 
-sub_later_latches : tie.Need-overflow-sub-later-latches
+sub_later_latches : tie.Need-overflow_sub-t
 sub_later_latches c = search rules
 
-later_latches_requires : tie.Need-later-latches-requires
+later_latches_requires : tie.Need-later_latches-requires
 unfolding inputs_limit latches_limit gates_limit row_width
 later_latches_requires c κs =
     let pre = (start c.before.before).requires in
-    (pre.good, omega (arith, row_room pre, c.before.if1.false))
+    (pre.good, omega (arith, row_room pre, c.if-t-eq0.false))
 
-same_length : tie.Need-same-length
+same_length : tie.Need-shape_of-table-then-t-eq0
 same_length c = search rules
 
-returns : tie.Need-returns
+returns : tie.Need-returns-then-t-eq0
 returns c =
     let first = first_of (copied c).before in
-    first_there (start first.before).requires _ first.if1.taken (copied c).copy-bits.ensures
+    first_there (start first.before).requires _ first.if-t-eq0.true (copied c).copy_bits.ensures
 
-same_length_2 : tie.Need-same-length-2
+same_length_2 : tie.Need-shape_of-table-else-t-eq0
 same_length_2 c = search rules
 
-returns_2 : tie.Need-returns-2
+returns_2 : tie.Need-returns-else-t-eq0
 returns_2 c =
     let later = later_of (stepped c) in
-    next_there (start later.before).requires _ later.if1.left (stepped c).later-latches.ensures
+    next_there (start later.before).requires _ later.if-t-eq0.false (stepped c).later_latches.ensures
 
 pub latches_spec : {M : Type 1} → statement M
 latches_spec =

@@ -18,13 +18,13 @@ use Rattle.witness.proofs.run.later_latches.Tie as tie
 
 -- ════════ The points ════════
 
-abbrev start : tie.After-table → tie.Start
-start c = c.before.before.before
+abbrev start : tie.After-table-1 → tie.Start
+start c = c.before.before.before.before.before.before.before.before.before.before.before
 
-abbrev lent_of : tie.After-next-latches → tie.After-table
+abbrev lent_of : tie.After-next_latches → tie.After-table-1
 lent_of c = c.before.before.before
 
-abbrev stepped : tie.After-copy → tie.After-next-latches
+abbrev stepped : tie.After-copy → tie.After-next_latches
 stepped c = c.before.before.before.before.before
 
 abbrev problem_at : tie.Start → Problem
@@ -39,44 +39,44 @@ many c = length_next_in (problem_at c) (row_in c.args.table.now c.args.t) ∙ (s
 
 -- ════════ The needs ════════
 
-mul_from : tie.Need-overflow-mul-from
+mul_from : tie.Need-overflow_mul-from
 mul_from c = search rules
 
-add_to : tie.Need-overflow-add-to
+add_to : tie.Need-overflow_add-to
 add_to c = search rules
 
-sub_next_latches : tie.Need-overflow-sub-next-latches
+sub_next_latches : tie.Need-slice_bounds-next_latches-count
 sub_next_latches c = search rules
 
-part_next_latches_start : tie.Need-slice-bounds-next-latches-start
+part_next_latches_start : tie.Need-slice_bounds-next_latches-start
 part_next_latches_start c = search rules
 
-part_next_latches_end : tie.Need-slice-bounds-next-latches-end
+part_next_latches_end : tie.Need-slice_bounds-next_latches-end
 unfolding inputs_limit latches_limit gates_limit row_width
 part_next_latches_end c = omega (arith, (start c).requires.1)
 
-slice_aggregate_next_latches : tie.Need-slice-aggregate-next-latches
+slice_aggregate_next_latches : tie.Need-slice_bounds-next_latches-end-2
 slice_aggregate_next_latches c = search rules
 
-next_latches_requires : tie.Need-next-latches-requires
+next_latches_requires : tie.Need-next_latches-requires
 next_latches_requires c κs = search rules
 
-slice_aggregate_copy : tie.Need-slice-aggregate-copy
+slice_aggregate_copy : tie.Need-slice_bounds-copy-end
 slice_aggregate_copy c = search rules
 
-add_copy : tie.Need-overflow-add-copy
+add_copy : tie.Need-overflow_add-to-2
 add_copy c = search rules
 
-cast_copy : tie.Need-overflow-cast-copy
+cast_copy : tie.Need-overflow_cast-s
 cast_copy c = search rules
 
-add_copy_2 : tie.Need-overflow-add-copy-2
+add_copy_2 : tie.Need-overflow_add-to-3
 add_copy_2 c = search rules
 
 copy_requires : tie.Need-copy-requires
 copy_requires c κs = search rules
 
-same_length : tie.Need-same-length
+same_length : tie.Need-shape_of-table
 same_length c = search rules
 
 returns : tie.Need-returns
@@ -90,8 +90,8 @@ returns c =
     let place : row_latches_from (problem_at s) (s.args.t + 1) ≡ at = omega arith in
     rw place
     (copied_there s.args.table.now (replicate 64 false) at (next_in (problem_at s) (row_in s.args.table.now s.args.t)) (many s)
-    (omega (arith, s.pre.0.proper.latches_within)) (omega (arith, s.pre.0.proper, s.pre.1))
-    (rw (lent (s.args.t * row_width)) at next.next-latches.ensures) copy.copy.ensures)
+    (omega (arith, s.requires.0.proper.latches_within)) (omega (arith, s.requires.0.proper, s.requires.1))
+    (rw (lent (s.args.t * row_width)) at next.next_latches.ensures) copy.copy.ensures)
 
 pub later_latches_spec : {M : Type 1} → statement M
 later_latches_spec =

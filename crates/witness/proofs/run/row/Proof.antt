@@ -28,36 +28,36 @@ words c = (start c).args.words.now
 -- ════════ The needs ════════
 
 inputs_requires : tie.Need-inputs-requires
-inputs_requires c κs = row_room c.before.before.before.before.requires
+inputs_requires c κs = row_room c.requires
 
 latches_requires : tie.Need-latches-requires
 latches_requires c κs =
     let inputs = c.before.before.before in
-    ready_still (start inputs).requires _ inputs.inputs.auto.1.1.1.0 (inputs.inputs.ensures (words inputs))
+    ready_still (start inputs).requires _ inputs.inputs.auto.table (inputs.inputs.ensures (words inputs))
 
-mul_from : tie.Need-overflow-mul-from
+mul_from : tie.Need-overflow_mul-from
 mul_from c = search rules
 
-add_to : tie.Need-overflow-add-to
+add_to : tie.Need-overflow_add-to
 add_to c = search rules
 
-sub_gates : tie.Need-overflow-sub-gates
+sub_gates : tie.Need-slice_bounds-gates-count
 sub_gates c = search rules
 
-part_gates_start : tie.Need-slice-bounds-gates-start
+part_gates_start : tie.Need-slice_bounds-gates-start
 part_gates_start c = search rules
 
-part_gates_end : tie.Need-slice-bounds-gates-end
+part_gates_end : tie.Need-slice_bounds-gates-end
 unfolding inputs_limit latches_limit gates_limit row_width
 part_gates_end c =
     let latches = c.before.before in
     let inputs = inputs_of latches in
-    omega (arith, row_room (start inputs).pre, latches.latches.auto.1.1.1.1.0, inputs.inputs.kept.1.1.1.0)
+    omega (arith, row_room (start inputs).requires, latches.latches.auto.table, inputs.inputs.auto.table)
 
 gates_requires : tie.Need-gates-requires
 gates_requires c κs = search rules
 
-same_length : tie.Need-same-length
+same_length : tie.Need-shape_of-table
 same_length c = search rules
 
 returns : tie.Need-returns
@@ -67,10 +67,10 @@ returns c =
     let latches = latches_of gates in
     let inputs = inputs_of latches in
     let from : ℕ = (start inputs).args.t * row_width in
-    row_there (start inputs).pre _ _ _ inputs.inputs.kept.1.1.1.0 latches.latches.kept.1.1.1.1.0
+    row_there (start inputs).requires _ _ _ inputs.inputs.auto.table latches.latches.auto.table
     (inputs.inputs.ensures (words inputs)) latches.latches.ensures
     (rw (lent from) at gates.gates.ensures) _
-    (same_len_mid from ((from + row_width) - from) _ gates.gates.new.1.1.0 gates.gates.auto.1.1.0)
+    (same_len_mid from ((from + row_width) - from) _ gates.gates.new.row gates.gates.auto.row)
 
 pub row_spec : {M : Type 1} → statement M
 row_spec =

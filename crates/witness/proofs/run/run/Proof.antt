@@ -9,51 +9,51 @@ use Rattle.values.specs.Tables.{RowsRight}
 use Rattle.witness.proofs.run.run.Statement.{statement}
 use Rattle.witness.proofs.run.run.Tie as tie
 
-abbrev invariant_loop : tie.invariant_loop
+abbrev invariant_loop : tie.invariant-loop-t
 invariant_loop words s witness table₀ t₀ table t = (t ≤ s.bound + 1) × RowsRight (problem_in s words) witness t table
 
-abbrev decreases_loop : tie.decreases_loop
+abbrev decreases_loop : tie.decreases-loop-t
 decreases_loop words s witness table₀ t₀ table t = s.bound + 1 - t
 
 -- ════════ The points ════════
 
-abbrev start : tie.At-loop invariant_loop decreases_loop → tie.Start invariant_loop decreases_loop
+abbrev start : tie.At-loop-t invariant_loop decreases_loop → tie.Start invariant_loop decreases_loop
 start l = l.before.before.before.before
 
-abbrev loop_of : tie.After-row-arg invariant_loop decreases_loop → tie.At-loop invariant_loop decreases_loop
+abbrev loop_of : tie.After-row-arg-1 invariant_loop decreases_loop → tie.At-loop-t invariant_loop decreases_loop
 loop_of c = c.before.before.before
 
-abbrev row_of : tie.After-slice-known2 invariant_loop decreases_loop → tie.After-row invariant_loop decreases_loop
+abbrev row_of : tie.After-slice_known-in-loop-t-1 invariant_loop decreases_loop → tie.After-row invariant_loop decreases_loop
 row_of c = c.before.before
 
 -- ════════ The needs ════════
 
-loop_holds : tie.Need-loop-init invariant_loop decreases_loop
-loop_holds c = (omega arith, record { room = c.before.before.before.requires.2; right = λ t h. absurd (omega arith) })
+loop_holds : tie.Need-loop-t-init invariant_loop decreases_loop
+loop_holds c = (omega arith, record { room = c.requires.2; right = λ t h. absurd (omega arith) })
 
 row_requires : tie.Need-row-requires invariant_loop decreases_loop
 row_requires c κs =
-    let pre = (start (loop_of c)).pre in
-    record { good = pre.0; long = pre.1; within = c.before.if1.true; right = (loop_of c).loop.invariant.1 }
+    let pre = (start (loop_of c)).requires in
+    record { good = pre.0; long = pre.1; within = c.loop-t-test.true; right = (loop_of c).loop-t.invariant.1 }
 
-add_t : tie.Need-overflow-add-t invariant_loop decreases_loop
+add_t : tie.Need-overflow_add-t invariant_loop decreases_loop
 unfolding bound_limit
-add_t c = omega (arith, bound_small (start (loop_of (row_of c).before)).pre.0)
+add_t c = omega (arith, bound_small (start (loop_of (row_of c).before)).requires.0)
 
-loop_less : tie.Need-loop-smaller invariant_loop decreases_loop
+loop_less : tie.Need-loop-t-smaller invariant_loop decreases_loop
 loop_less c = omega arith
 
-loop_again : tie.Need-loop-preserved invariant_loop decreases_loop
+loop_again : tie.Need-loop-t-preserved invariant_loop decreases_loop
 loop_again c = (omega arith, (row_of c).row.ensures)
 
-same_length : tie.Need-same-length invariant_loop decreases_loop
-same_length c = let l = c.before.before in l.loop.invariant.1.room ∙ sym (start l).requires.2
+same_length : tie.Need-shape_of-table invariant_loop decreases_loop
+same_length c = let l = c.before.before in l.loop-t.invariant.1.room ∙ sym (start l).requires.2
 
 returns : tie.Need-returns invariant_loop decreases_loop
 returns c =
     let l = c.before.before in
-    let end : l.loop.t ≡ (start l).args.s.bound + 1 = omega arith in
-    rw end at l.loop.invariant.1
+    let end : l.loop-t.t ≡ (start l).args.s.bound + 1 = omega arith in
+    rw end at l.loop-t.invariant.1
 
 pub run_spec : {M : Type 1} → statement M
 run_spec =
