@@ -11,97 +11,97 @@ use Rattle.checker.proofs.judge.judge_refutation.Tie as tie
 
 -- ════════ The points, and what is known there ════════
 
-abbrev start : tie.After-room → tie.Start
+abbrev start : tie.After-room-1 → tie.Start
 start c = c.before.before.before.before.before.before
 
-abbrev told : tie.After-judge-written → tie.After-prepared
-told c = c.before.before.before.before.before
+abbrev told : tie.After-judge_written → tie.In-Written
+told c = c.before.before.before
 
 -- The CNF was written.
-written : (c : tie.After-prepared)
-    → PreparedAs (start c.before.before).args.version (start c.before.before).args.words.now (start c.before.before).args.refutation.now
-    (length (start c.before.before).args.by_numbers.now) (length (start c.before.before).args.by_clauses.now) (start c.before.before).args.room.now
-    (Written c.prepared.given.0.0) c.before.before.before.prepare.new.1.1.1.0
-written c = rw c.prepared.given.1 at c.before.before.before.prepare.ensures
+written : (c : tie.In-Written)
+    → PreparedAs (start c.before).args.version (start c.before).args.words.now (start c.before).args.refutation.now
+    (length (start c.before).args.by_numbers.now) (length (start c.before).args.by_clauses.now) (start c.before).args.room.now
+    (Written c.in-Written.n) c.prepare-prepared.new.room
+written c = rw c.in-Written.is at c.prepare-prepared.ensures
 
-abbrev p : tie.After-prepared → Problem
-p c = problem (start c.before.before).args.version (start c.before.before).args.words.now
+abbrev p : tie.In-Written → Problem
+p c = problem (start c.before).args.version (start c.before).args.words.now
 
-held : (c : tie.After-prepared) → CnfHeld (p c) c.prepared.given.0.0 c.before.before.before.prepare.new.1.1.1.0
+held : (c : tie.In-Written) → CnfHeld (p c) c.in-Written.n c.prepare-prepared.new.room
 held c =
-    let args = (start c.before.before).args in
-    cnf_held args.version args.words.now args.refutation.now args.room.now args.by_numbers.now args.by_clauses.now (written c)
+    let args = (start c.before).args in
+    cnf_held args.version args.words.now args.refutation.now args.room.now args.by_numbers-1.now args.by_clauses-1.now (written c)
 
 -- ════════ The needs ════════
 
-prepare_requires : tie.Need-prepare-requires
+prepare_requires : tie.Need-prepare-prepared-requires
 prepare_requires c κs = search rules
 
-enum_known_prepared : tie.Need-enum-known-prepared
+enum_known_prepared : tie.Need-enum_known-prepared
 enum_known_prepared c = search rules
 
-judge_written_requires : tie.Need-judge-written-requires
+judge_written_requires : tie.Need-judge_written-requires
 judge_written_requires c κs =
-    let prepared = c.before.before.before.before in
+    let prepared = c.before.before in
     record { p = p prepared; holds = held prepared }
 
-enum_known_prepared_2 : tie.Need-enum-known-prepared-2
+enum_known_prepared_2 : tie.Need-enum_known-prepared-in-Problem-1
 enum_known_prepared_2 c = search rules
 
-enum_known_prepared_3 : tie.Need-enum-known-prepared-3
+enum_known_prepared_3 : tie.Need-enum_known-prepared-in-RoomTooSmall-1
 enum_known_prepared_3 c = search rules
 
-enum_known_prepared_4 : tie.Need-enum-known-prepared-4
+enum_known_prepared_4 : tie.Need-enum_known-prepared-in-BadRefutation-1
 enum_known_prepared_4 c = search rules
 
-enum_known_prepared_5 : tie.Need-enum-known-prepared-5
+enum_known_prepared_5 : tie.Need-enum_known-prepared-in-AreaTooSmall-1
 enum_known_prepared_5 c = search rules
 
-same_length : tie.Need-same-length
+same_length : tie.Need-shape_of-room-in-Written
 same_length c = search rules
 
-same_length_2 : tie.Need-same-length-2
+same_length_2 : tie.Need-shape_of-by_numbers
 same_length_2 c = search rules
 
-same_length_3 : tie.Need-same-length-3
+same_length_3 : tie.Need-shape_of-by_clauses
 same_length_3 c = search rules
 
-returns : tie.Need-returns
+returns : tie.Need-returns-in-Written
 returns c =
     let call = c.before.before.before.before in
-    steps_answered _ _ _ _ _ _ (written (told call)) (call.judge-written.ensures (p (told call)) (held (told call)))
+    steps_answered _ _ _ _ _ _ (written (told call)) (call.judge_written.ensures (p (told call)) (held (told call)))
 
-same_length_4 : tie.Need-same-length-4
+same_length_4 : tie.Need-shape_of-room-in-Problem
 same_length_4 c = search rules
 
-returns_2 : tie.Need-returns-2
+returns_2 : tie.Need-returns-in-Problem
 returns_2 c =
-    let told = c.before in
-    problem_refused _ _ _ _ _ _ (rw told.prepared2.given.1 at told.before.before.before.prepare.ensures)
+    let told = c in
+    problem_refused _ _ _ _ _ _ (rw told.in-Problem.is at told.prepare-prepared.ensures)
 
-same_length_5 : tie.Need-same-length-5
+same_length_5 : tie.Need-shape_of-room-in-RoomTooSmall
 same_length_5 c = search rules
 
-returns_3 : tie.Need-returns-3
+returns_3 : tie.Need-returns-in-RoomTooSmall
 returns_3 c =
-    let told = c.before in
-    room_refused _ _ _ _ _ _ (rw told.prepared3.given.1 at told.before.before.before.prepare.ensures)
+    let told = c in
+    room_refused _ _ _ _ _ _ (rw told.in-RoomTooSmall.is at told.prepare-prepared.ensures)
 
-same_length_6 : tie.Need-same-length-6
+same_length_6 : tie.Need-shape_of-room-in-BadRefutation
 same_length_6 c = search rules
 
-returns_4 : tie.Need-returns-4
+returns_4 : tie.Need-returns-in-BadRefutation
 returns_4 c =
-    let told = c.before in
-    words_refused _ _ _ _ _ _ (rw told.prepared4.given.1 at told.before.before.before.prepare.ensures)
+    let told = c in
+    words_refused _ _ _ _ _ _ (rw told.in-BadRefutation.is at told.prepare-prepared.ensures)
 
-same_length_7 : tie.Need-same-length-7
+same_length_7 : tie.Need-shape_of-room-in-AreaTooSmall
 same_length_7 c = search rules
 
-returns_5 : tie.Need-returns-5
+returns_5 : tie.Need-returns-in-AreaTooSmall
 returns_5 c =
-    let told = c.before in
-    area_refused _ _ _ _ _ _ (rw told.prepared5.given.1 at told.before.before.before.prepare.ensures)
+    let told = c in
+    area_refused _ _ _ _ _ _ (rw told.in-AreaTooSmall.is at told.prepare-prepared.ensures)
 
 pub judge_refutation_spec : {M : Type 1} → statement M
 judge_refutation_spec =

@@ -12,12 +12,12 @@ use Rattle.checker.proofs.judge.judge_written.Tie as tie
 abbrev call : tie.After-refuted → tie.After-judge
 call c = c.before.before.before.before.before
 
-slice_aggregate_cnf : tie.Need-slice-aggregate-cnf
+slice_aggregate_cnf : tie.Need-slice_bounds-cnf-end
 slice_aggregate_cnf c =
     let held = c.before.before.before.requires.holds in
     sym (length-take-le _ _ held.fits)
 
-cast_judge : tie.Need-overflow-cast-judge
+cast_judge : tie.Need-overflow_cast-n
 unfolding variables_limit
 cast_judge c = omega (arith, variables_few c.before.before.before.before.requires.holds)
 
@@ -27,10 +27,10 @@ judge_requires c κs = search rules
 refuted_requires : tie.Need-refuted-requires
 refuted_requires c κs = search rules
 
-same_length : tie.Need-same-length
+same_length : tie.Need-shape_of-by_numbers
 same_length c = search rules
 
-same_length_2 : tie.Need-same-length-2
+same_length_2 : tie.Need-shape_of-by_clauses
 same_length_2 c = search rules
 
 returns : tie.Need-returns

@@ -9,39 +9,39 @@ use Rattle.checker.proofs.prepare.prepare.Tie as tie
 
 -- ════════ The points ════════
 
-abbrev start : tie.After-checked → tie.Start
-start c = c.before.before.before.before
+abbrev start : tie.In-Good → tie.Start
+start c = c.before.before.before
 
-abbrev known : tie.After-prepare-good → tie.After-checked
-known c = c.before.before.before.before
+abbrev known : tie.After-prepare_good → tie.In-Good
+known c = c.before.before.before
 
-good : (c : tie.After-checked) → CheckedAs (start c).args.version (start c).args.words.now (Good c.checked.given.0.0)
-good c = rw c.checked.given.1 at c.before.before.check.ensures
+good : (c : tie.In-Good) → CheckedAs (start c).args.version (start c).args.words.now (Good c.in-Good.g)
+good c = rw c.in-Good.is at c.check-checked.ensures
 
 -- ════════ The needs ════════
 
-check_requires : tie.Need-check-requires
+check_requires : tie.Need-check-checked-requires
 check_requires c κs = search rules
 
-enum_known_checked : tie.Need-enum-known-checked
+enum_known_checked : tie.Need-enum_known-checked
 enum_known_checked c = search rules
 
-prepare_good_requires : tie.Need-prepare-good-requires
-prepare_good_requires c κs = let g = good c.before.before.before in (well_formed_if_good g, g.counted)
+prepare_good_requires : tie.Need-prepare_good-requires
+prepare_good_requires c κs = let g = good c.before.before in (well_formed_if_good g, g.counted)
 
-enum_known_checked_2 : tie.Need-enum-known-checked-2
+enum_known_checked_2 : tie.Need-enum_known-checked-in-Refused-1
 enum_known_checked_2 c = search rules
 
-same_length : tie.Need-same-length
+same_length : tie.Need-shape_of-room
 same_length c = search rules
 
-returns : tie.Need-returns
-returns c = prepared_if_good (good (known c.before)) c.before.prepare-good.ensures
+returns : tie.Need-returns-in-Good
+returns c = prepared_if_good (good (known c.before)) c.prepare_good.ensures
 
-returns_2 : tie.Need-returns-2
+returns_2 : tie.Need-returns-in-Refused
 returns_2 c =
-    let refused = c.before in
-    prepared_if_refused (rw refused.checked2.given.1 at refused.before.before.check.ensures) _
+    let refused = c in
+    prepared_if_refused (rw refused.in-Refused.is at refused.check-checked.ensures) _
 
 pub prepare_spec : {M : Type 1} → statement M
 prepare_spec =

@@ -42,98 +42,98 @@ counted : (c : tie.Start) → n c ≡ counts_of (p c)
 counted c = c.requires.1
 
 -- Past the room's test, and where the steps are counted too.
-abbrev begun : tie.After-struct-known → tie.Start
+abbrev begun : tie.After-struct_known-1 → tie.Start
 begun c = c.before.before
 
-abbrev start : tie.Else1 → tie.Start
+abbrev start : tie.Else-room-n → tie.Start
 start t = begun t.before
 
-abbrev tested : tie.After-known-told → tie.Else1
-tested k = k.before.before.before.before.before
+abbrev tested : tie.In-Count → tie.Else-room-n
+tested k = k.before.before.before
 
-abbrev known : tie.After-known-told → tie.Start
+abbrev known : tie.In-Count → tie.Start
 known k = start (tested k)
 
-room_there : (k : tie.After-known-told) → (n (known k)).words ≤ length (known k).args.room.now
-room_there k = (tested k).if1.false
+room_there : (k : tie.In-Count) → (n (known k)).words ≤ length (known k).args.room.now
+room_there k = (tested k).if-room-n.false
 
-steps_right : (k : tie.After-known-told)
+steps_right : (k : tie.In-Count)
     → (all_of passing (refutation_checks (n (known k)).variables (n (known k)).clauses (known k).args.refutation.now) ≡ true)
-    × (k.before.steps.given.0.0 ≡ length (steps_of (known k).args.refutation.now))
+    × (k.in-Count.steps ≡ length (steps_of (known k).args.refutation.now))
 steps_right k =
     steps_counted (n (known k)).variables (n (known k)).clauses (known k).args.refutation.now
-    (ap (counted_answer bad_refutation) (sym k.before.steps.given.1) ∙ k.before.before.before.count-steps.ensures)
+    (ap (counted_answer bad_refutation) (sym k.in-Count.is) ∙ k.count_steps.ensures)
 
 -- Both areas' tests, by the second.
-abbrev first_test : tie.Else3 → tie.Else2
+abbrev first_test : tie.Else-places-places_needed → tie.Else-numbers-numbers_needed
 first_test t = t.before.before
 
-abbrev told : tie.Else2 → tie.After-known-told
+abbrev told : tie.Else-numbers-numbers_needed → tie.In-Count
 told t = t.before.before
 
-both_fit : (k : tie.After-known-told) → (n (known k)).clauses + k.before.steps.given.0.0 < 18446744073709551616
+both_fit : (k : tie.In-Count) → (n (known k)).clauses + k.in-Count.steps < 18446744073709551616
 both_fit k =
     let c = known k in
-    omega (arith, room_there k, c.good, (steps_right k).1, fewer_clauses (proper c) (counted c), steps_fewer c.args.refutation.now)
+    omega (arith, room_there k, c.well_formed, (steps_right k).1, fewer_clauses (proper c) (counted c), steps_fewer c.args.refutation.now)
 
 -- ════════ The needs ════════
 
-returns : tie.Need-returns
-returns c = let k = begun c.before in room_refused (proper k) (counted k) _ _ _ _ c.if1.true
+returns : tie.Need-returns-then-room-n
+returns c = let k = begun c.before in room_refused (proper k) (counted k) _ _ _ _ c.if-room-n.true
 
-cast_count_steps : tie.Need-overflow-cast-count-steps
+cast_count_steps : tie.Need-overflow_cast-n
 unfolding variables_limit
 cast_count_steps c = let k = start c.before in omega (arith, few_variables (proper k) (counted k))
 
-count_steps_requires : tie.Need-count-steps-requires
+count_steps_requires : tie.Need-count_steps-requires
 count_steps_requires c κs = search rules
 
-enum_known_steps : tie.Need-enum-known-steps
+enum_known_steps : tie.Need-enum_known-steps
 enum_known_steps c = search rules
 
-enum_known_i : tie.Need-enum-known-i
+enum_known_i : tie.Need-enum_known-i
 enum_known_i c = search rules
 
-returns_2 : tie.Need-returns-2
+returns_2 : tie.Need-returns-in-BadAt
 returns_2 c =
-    let call = c.before.before.before in
+    let call = c.before in
     let test = call.before.before in
     let k = start test in
-    words_refused (proper k) (counted k) _ _ _ _ test.if1.false
-    (ap (counted_answer bad_refutation) (sym c.before.i.given.1) ∙ call.count-steps.ensures)
+    words_refused (proper k) (counted k) _ _ _ _ test.if-room-n.false
+    (ap (counted_answer bad_refutation) (sym c.in-BadAt.is) ∙ call.count_steps.ensures)
 
-add_numbers_needed : tie.Need-overflow-add-numbers-needed
+add_numbers_needed : tie.Need-overflow_add-numbers_needed
 unfolding variables_limit
 add_numbers_needed c = let k = known c.before in omega (arith, few_variables (proper k) (counted k))
 
-returns_3 : tie.Need-returns-3
+returns_3 : tie.Need-returns-then-numbers-numbers_needed
 returns_3 c =
     let k = c.before.before in
-    numbers_refused (proper (known k)) (counted (known k)) _ _ _ _ (room_there k) (steps_right k) c.if2.true
+    numbers_refused (proper (known k)) (counted (known k)) _ _ _ _ (room_there k) (steps_right k) c.if-numbers-numbers_needed.true
 
-add_places_needed : tie.Need-overflow-add-places-needed
+add_places_needed : tie.Need-overflow_add-places_needed
 add_places_needed c = omega (arith, both_fit (told c.before))
 
-returns_4 : tie.Need-returns-4
+returns_4 : tie.Need-returns-then-places-places_needed
 returns_4 c =
     let test = c.before.before in
     let k = told test in
-    places_refused (proper (known k)) (counted (known k)) _ _ _ _ (room_there k) (steps_right k) test.if2.false c.if3.true
+    places_refused (proper (known k)) (counted (known k)) _ _ _ _ (room_there k) (steps_right k) test.if-numbers-numbers_needed.false c.if-places-places_needed.true
 
-write_cnf_requires : tie.Need-write-cnf-requires
+write_cnf_requires : tie.Need-write_cnf-requires
 write_cnf_requires c κs = search rules
 
-same_length : tie.Need-same-length
+same_length : tie.Need-shape_of-room
 same_length c = search rules
 
-returns_5 : tie.Need-returns-5
+returns_5 : tie.Need-returns
 returns_5 c =
     let last = c.before.before.before in
     let test = first_test last in
     let k = told test in
     let s = known k in
-    cnf_prepared (proper s) (counted s) _ _ _ _ (room_there k) (steps_right k) test.if2.left last.if3.false
-    (cnf_written _ _ _ c.before.write_cnf.ensures (formed s) (cnf_fits (proper s) (counted s) (room_there k))).1
+    cnf_prepared (proper s) (counted s) _ _ _ _ (room_there k) (steps_right k) test.if-numbers-numbers_needed.false last.if-places-places_needed.false
+    (cnf_written _ _ _ c.write_cnf.ensures (formed s) (cnf_fits (proper s) (counted s) (room_there k))).1
 
 pub prepare_good_spec : {M : Type 1} → statement M
 prepare_good_spec =

@@ -108,9 +108,9 @@ loop_again c =
     let below : t.loop-i.i < length p.latches = rw (shows _ _).latches_are reset.loop-i-test.true in (
       omega arith,
       ⊎_elim
-          (λ w. w.1 ∙ free_more p t.loop-i.i below t.loop-i.invariant.1 reset.latch_reset.ensures w.0.true)
-          (λ w. w.1 ∙ fixed_more p t.loop-i.i below t.loop-i.invariant.1 reset.latch_reset.ensures w.0.false)
-          c.if-latch_reset-eq-FREE.branch,
+          (λ w. w.bits-is ∙ free_more p t.loop-i.i below t.loop-i.invariant.1 reset.latch_reset.ensures w.if-latch_reset-eq-FREE.true)
+          (λ w. w.bits-is ∙ fixed_more p t.loop-i.i below t.loop-i.invariant.1 reset.latch_reset.ensures w.if-latch_reset-eq-FREE.false)
+          c.if-latch_reset-eq-FREE.branch-raw,
     )
 
 returns : tie.Need-returns invariant_loop decreases_loop

@@ -165,7 +165,7 @@ mul_next_latches c = omega arith
 index_1_next_latches : tie.Need-bounds-run-t-then-t-s invariant_loop decreases_loop
 unfolding bound_limit
 index_1_next_latches c =
-    let then = c.before.before in
+    let then = c.before in
     omega (arith, then.if-t-s.true, bound_small (start (loop_of (turn (passed then.before)))).requires.0)
 
 cast_next_latches_2 : tie.Need-overflow_cast-s invariant_loop decreases_loop
@@ -195,9 +195,9 @@ loop_again c =
     let met = sym (met_at (asked c.before)) ∙ not-false _ c.if-not-row_meets.false-raw in
     let size = lent (l.loop-t.t * row_width) in
     ⊎_elim
-    (λ w. rw w.6 (next_shown z s.requires.0.proper l.loop-t.invariant here w.0.true _ right met _ (rw size at w.5.ensures)))
-    (λ w. rw w.1 (last_shown z s.requires.0.proper l.loop-t.invariant here w.0.false _ right met))
-    c.if-t-s.branch
+    (λ w. rw w.run-is (next_shown z s.requires.0.proper l.loop-t.invariant here w.if-t-s.true _ right met _ (rw size at w.next_latches.ensures)))
+    (λ w. rw w.run-is (last_shown z s.requires.0.proper l.loop-t.invariant here w.if-t-s.false _ right met))
+    c.if-t-s.branch-raw
 
 same_length_2 : tie.Need-shape_of-table invariant_loop decreases_loop
 same_length_2 c = let l = c.before.before in l.loop-t.invariant.values_right.room ∙ sym (start l).requires.2

@@ -78,9 +78,9 @@ loop_again c =
     let call = (trial c).tried-lower in (
       omega (arith, run_left (turn (trial c).before)),
       ⊎_elim
-          (λ w. better l.loop-m.invariant.1 call.ensures.0 w.0.true w.1 w.2)
-          (λ w. no_better l.loop-m.invariant.1 call.ensures.0 w.0.false w.1 w.2)
-          c.if-lower-first.branch,
+          (λ w. better l.loop-m.invariant.1 call.ensures.0 w.if-lower-first.true w.first-is w.found-is)
+          (λ w. no_better l.loop-m.invariant.1 call.ensures.0 w.if-lower-first.false w.first-is w.found-is)
+          c.if-lower-first.branch-raw,
       call.ensures.1,
       call.auto.table ∙ l.loop-m.invariant.3,
     )

@@ -5,6 +5,7 @@ use native.Mathlib.Omega.{arith}
 use Rattle.answers.specs.Limits.{bound_limit}
 use Rattle.meaning.specs.Problem.{Problem}
 use Rattle.meaning.specs.Witnesses.{byte_limit}
+use Rattle.problem.specs.Promise.{problem_in}
 use Rattle.problem.proofs.Outlines.{shows}
 use borrow.Author.Rules.{rules}
 use Rattle.witness.proofs.bytes.byte_limit.Statement.{statement}
@@ -25,7 +26,7 @@ returns : tie.Need-returns-then-i-eq0
 returns c = λ ws. rw (c.if-i-eq0.true, (shows c.args.s ws).bound_is)
 
 returns_2 : tie.Need-returns-else-i-eq0
-returns_2 c = λ ws. limit_later _ c.args.i c.if-i-eq0.false
+returns_2 c = λ ws. limit_later (problem_in c.args.s ws) c.args.i c.if-i-eq0.false
 
 pub byte_limit_spec : {M : Type 1} → statement M
 byte_limit_spec = tie.close (tie.spec add_result cast_result returns returns_2)

@@ -61,7 +61,7 @@ unfolding inputs_limit latches_limit gates_limit row_width
 met c bs run =
     let t = (loop_of (turn c)).loop-t.t in
     let size : (t * row_width + row_width) - t * row_width ≡ row_width = omega arith in
-    (rw size at c.meets_constraints.ensures) ∙ constraints_in_row run.right run.well_formed.proper {t = t} (omega (arith, (turn c).loop-t-test.true))
+    (rw size at c.meets_constraints.ensures) ∙ constraints_in_row run.right run.good.proper {t = t} (omega (arith, (turn c).loop-t-test.true))
 
 -- ════════ The needs ════════
 

@@ -18,11 +18,11 @@ use Rattle.witness.proofs.run.later_latches.Tie as tie
 
 -- ════════ The points ════════
 
-abbrev start : tie.After-table-1 → tie.Start
-start c = c.before.before.before.before.before.before.before.before.before.before.before
+abbrev start : tie.After-next_latches-arg-1 → tie.Start
+start c = c.before.before.before
 
-abbrev lent_of : tie.After-next_latches → tie.After-table-1
-lent_of c = c.before.before.before
+abbrev lent_of : tie.After-next_latches → tie.After-next_latches-arg-1
+lent_of c = c.before.before
 
 abbrev stepped : tie.After-copy → tie.After-next_latches
 stepped c = c.before.before.before.before.before
@@ -53,7 +53,7 @@ part_next_latches_start c = search rules
 
 part_next_latches_end : tie.Need-slice_bounds-next_latches-end
 unfolding inputs_limit latches_limit gates_limit row_width
-part_next_latches_end c = omega (arith, (start c).requires.1)
+part_next_latches_end c = omega (arith, c.requires.1)
 
 slice_aggregate_next_latches : tie.Need-slice_bounds-next_latches-end-2
 slice_aggregate_next_latches c = search rules
