@@ -13,7 +13,6 @@ use Rattle.answers.proofs.Tests.{those_few, those_append}
 use Rattle.meaning.specs.Problem.{Problem, Outline, Latch, Node, atom, latch, node}
 use Rattle.meaning.proofs.ClosedForms.{fixed_resets, has_equal_form, has_or_form, has_until_form}
 use Rattle.problem.specs.declared.kinds.Kind.{Kind}
-use Rattle.problem.specs.declared.kinds.Kind.TheVariants as Kind
 use Rattle.problem.specs.declared.count.Seen.{Seen}
 use Rattle.problem.specs.Kinds.{count_of}
 use Rattle.problem.specs.Walks.{FormsOf, FewForms, Added, SeenTo}

@@ -20,7 +20,6 @@ use Rattle.problem.specs.declared.Outline.{Outline}
 use Rattle.problem.specs.declared.ProblemRecord.{ProblemRecord}
 use Rattle.problem.specs.declared.Refusal.{Refusal}
 use Rattle.problem.specs.declared.Checked.{Checked}
-use Rattle.problem.specs.declared.Checked.TheVariants as Checked
 use Rattle.problem.specs.declared.parts.PartAnswer.{PartAnswer}
 use Rattle.problem.specs.declared.parts.PartAnswer.TheVariants.{Passed, Refused}
 use Rattle.problem.specs.Promise.{refusal_answer, outline_of, problem_in, ProperIn, CountedIn, Outlined, CheckedAs}

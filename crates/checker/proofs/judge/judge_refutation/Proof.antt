@@ -30,7 +30,7 @@ p c = problem (start c.before).args.version (start c.before).args.words.now
 held : (c : tie.In-Written) → CnfHeld (p c) c.in-Written.n c.prepare-prepared.new.room
 held c =
     let args = (start c.before).args in
-    cnf_held args.version args.words.now args.refutation.now args.room.now args.by_numbers-1.now args.by_clauses-1.now (written c)
+    cnf_held args.version args.words.now args.refutation.now args.room.now args.by_numbers.now args.by_clauses.now (written c)
 
 -- ════════ The needs ════════
 

@@ -14,12 +14,12 @@ call c = c.before.before.before.before.before
 
 slice_aggregate_cnf : tie.Need-slice_bounds-cnf-end
 slice_aggregate_cnf c =
-    let held = c.before.before.before.requires.holds in
+    let held = c.requires.holds in
     sym (length-take-le _ _ held.fits)
 
 cast_judge : tie.Need-overflow_cast-n
 unfolding variables_limit
-cast_judge c = omega (arith, variables_few c.before.before.before.before.requires.holds)
+cast_judge c = omega (arith, variables_few c.requires.holds)
 
 judge_requires : tie.Need-judge-requires
 judge_requires c κs = search rules
