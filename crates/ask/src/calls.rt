@@ -4,6 +4,7 @@ use crate::input::{
     AREA_WORDS, CNF_WORDS, Fault, Got, LARGEST, PROBLEM_WORDS, REFUTATION_WORDS, WITNESS_BYTES,
 };
 use crate::output::{print_all, print_answer, print_areas, print_bytes, print_room};
+use std::io::Read;
 
 #[derive(Clone, Copy)]
 pub enum Outcome {
@@ -44,74 +45,92 @@ pub(crate) fn fill_bytes(room: &mut [u8]) {
 
 // Call 1.
 pub(crate) fn check(
+    rt: &impl Print,
+    input: &mut impl Read,
     version: u32,
     bytes: &mut [u8; LARGEST],
     problem: &mut [u32; PROBLEM_WORDS],
 ) -> Outcome {
-    let words = match input::next_words(bytes, problem) {
+    let words = match input::next_words(input, bytes, problem) {
         Got::Items(n) => n,
         Got::Broken(fault) => return Outcome::Broken(fault),
     };
     let problem: &[u32] = problem;
     let r = problem::check::check(version, &problem[0..words]);
-    print_answer(problem::answer::number(r), problem::answer::place(r));
+    print_answer(rt, problem::answer::number(r), problem::answer::place(r));
     Outcome::Answered
 }
 
-fn write_filled(version: u32, problem: &[u32], room: &mut [i32]) {
+fn write_filled(rt: &impl Print, version: u32, problem: &[u32], room: &mut [i32]) {
     fill_room(room);
     let r = encoder::encode::write_cnf(version, problem, room);
-    print_room(encoder::answer::number(r), encoder::answer::place(r), room);
+    print_room(
+        rt,
+        encoder::answer::number(r),
+        encoder::answer::place(r),
+        room,
+    );
 }
 
 // Reads what is left of the request; as much of the room is lent as it asks for.
-fn write_room(version: u32, problem: &[u32], room: &mut [i32]) -> Outcome {
-    let words = match input::next_count(room.len()) {
+fn write_room(
+    rt: &impl Print,
+    input: &mut impl Read,
+    version: u32,
+    problem: &[u32],
+    room: &mut [i32],
+) -> Outcome {
+    let words = match input::next_count(input, room.len()) {
         Got::Items(n) => n,
         Got::Broken(fault) => return Outcome::Broken(fault),
     };
-    write_filled(version, problem, &mut room[0..words]);
+    write_filled(rt, version, problem, &mut room[0..words]);
     Outcome::Answered
 }
 
 // Call 2.
 pub(crate) fn write_cnf(
+    rt: &impl Print,
+    input: &mut impl Read,
     version: u32,
     bytes: &mut [u8; LARGEST],
     problem: &mut [u32; PROBLEM_WORDS],
     room: &mut [i32; CNF_WORDS],
 ) -> Outcome {
-    let words = match input::next_words(bytes, problem) {
+    let words = match input::next_words(input, bytes, problem) {
         Got::Items(n) => n,
         Got::Broken(fault) => return Outcome::Broken(fault),
     };
     let problem: &[u32] = problem;
-    write_room(version, &problem[0..words], room)
+    write_room(rt, input, version, &problem[0..words], room)
 }
 
 // Call 3.
 pub(crate) fn judge_witness(
+    rt: &impl Print,
+    input: &mut impl Read,
     version: u32,
     bytes: &mut [u8; LARGEST],
     problem: &mut [u32; PROBLEM_WORDS],
     witness: &mut [u8; WITNESS_BYTES],
 ) -> Outcome {
-    let words = match input::next_words(bytes, problem) {
+    let words = match input::next_words(input, bytes, problem) {
         Got::Items(n) => n,
         Got::Broken(fault) => return Outcome::Broken(fault),
     };
-    let size = match input::next_raw(witness) {
+    let size = match input::next_raw(input, witness) {
         Got::Items(n) => n,
         Got::Broken(fault) => return Outcome::Broken(fault),
     };
     let problem: &[u32] = problem;
     let witness: &[u8] = witness;
     let r = witness::judge::judge(version, &problem[0..words], &witness[0..size]);
-    print_answer(witness::answer::number(r), witness::answer::place(r));
+    print_answer(rt, witness::answer::number(r), witness::answer::place(r));
     Outcome::Answered
 }
 
 fn judge_filled<'a>(
+    rt: &impl Print,
     variables: u32,
     cnf: &'a [i32],
     refutation: &'a [i32],
@@ -123,26 +142,29 @@ fn judge_filled<'a>(
     let r = refutation::judge::judge(variables, cnf, refutation, by_numbers, by_clauses);
     let number = refutation::answer::number(r);
     let place = refutation::answer::place(r);
-    print_areas(number, place, by_numbers, by_clauses);
+    print_areas(rt, number, place, by_numbers, by_clauses);
 }
 
 // Reads what is left of the request; the judge is lent as much of each work area as it asks for.
 fn judge_areas<'a>(
+    rt: &impl Print,
+    input: &mut impl Read,
     variables: u32,
     cnf: &'a [i32],
     refutation: &'a [i32],
     by_numbers: &mut [u64],
     by_clauses: &mut [u64],
 ) -> Outcome {
-    let numbers = match input::next_count(by_numbers.len()) {
+    let numbers = match input::next_count(input, by_numbers.len()) {
         Got::Items(n) => n,
         Got::Broken(fault) => return Outcome::Broken(fault),
     };
-    let clauses = match input::next_count(by_clauses.len()) {
+    let clauses = match input::next_count(input, by_clauses.len()) {
         Got::Items(n) => n,
         Got::Broken(fault) => return Outcome::Broken(fault),
     };
     judge_filled(
+        rt,
         variables,
         cnf,
         refutation,
@@ -154,6 +176,8 @@ fn judge_areas<'a>(
 
 // Call 4.
 pub(crate) fn judge_bare(
+    rt: &impl Print,
+    input: &mut impl Read,
     variables: u32,
     bytes: &mut [u8; LARGEST],
     cnf: &mut [i32; CNF_WORDS],
@@ -161,17 +185,19 @@ pub(crate) fn judge_bare(
     by_numbers: &mut [u64; AREA_WORDS],
     by_clauses: &mut [u64; AREA_WORDS],
 ) -> Outcome {
-    let words = match input::next_signed(bytes, cnf) {
+    let words = match input::next_signed(input, bytes, cnf) {
         Got::Items(n) => n,
         Got::Broken(fault) => return Outcome::Broken(fault),
     };
-    let steps = match input::next_signed(bytes, refutation) {
+    let steps = match input::next_signed(input, bytes, refutation) {
         Got::Items(n) => n,
         Got::Broken(fault) => return Outcome::Broken(fault),
     };
     let cnf: &[i32] = cnf;
     let refutation: &[i32] = refutation;
     judge_areas(
+        rt,
+        input,
         variables,
         &cnf[0..words],
         &refutation[0..steps],
@@ -181,6 +207,7 @@ pub(crate) fn judge_bare(
 }
 
 fn refute_filled(
+    rt: &impl Print,
     version: u32,
     problem: &[u32],
     refutation: &[i32],
@@ -196,11 +223,13 @@ fn refute_filled(
     );
     let number = checker::answer::number(r);
     let place = checker::answer::place(r);
-    print_all(number, place, room, by_numbers, by_clauses);
+    print_all(rt, number, place, room, by_numbers, by_clauses);
 }
 
 // Reads what is left of the request; as much of each buffer is lent as it asks for.
 fn refute_within(
+    rt: &impl Print,
+    input: &mut impl Read,
     version: u32,
     problem: &[u32],
     refutation: &[i32],
@@ -208,19 +237,20 @@ fn refute_within(
     by_numbers: &mut [u64],
     by_clauses: &mut [u64],
 ) -> Outcome {
-    let words = match input::next_count(room.len()) {
+    let words = match input::next_count(input, room.len()) {
         Got::Items(n) => n,
         Got::Broken(fault) => return Outcome::Broken(fault),
     };
-    let numbers = match input::next_count(by_numbers.len()) {
+    let numbers = match input::next_count(input, by_numbers.len()) {
         Got::Items(n) => n,
         Got::Broken(fault) => return Outcome::Broken(fault),
     };
-    let clauses = match input::next_count(by_clauses.len()) {
+    let clauses = match input::next_count(input, by_clauses.len()) {
         Got::Items(n) => n,
         Got::Broken(fault) => return Outcome::Broken(fault),
     };
     refute_filled(
+        rt,
         version,
         problem,
         refutation,
@@ -233,6 +263,8 @@ fn refute_within(
 
 // Call 5.
 pub(crate) fn judge_refutation(
+    rt: &impl Print,
+    input: &mut impl Read,
     version: u32,
     bytes: &mut [u8; LARGEST],
     problem: &mut [u32; PROBLEM_WORDS],
@@ -241,17 +273,19 @@ pub(crate) fn judge_refutation(
     by_numbers: &mut [u64; AREA_WORDS],
     by_clauses: &mut [u64; AREA_WORDS],
 ) -> Outcome {
-    let words = match input::next_words(bytes, problem) {
+    let words = match input::next_words(input, bytes, problem) {
         Got::Items(n) => n,
         Got::Broken(fault) => return Outcome::Broken(fault),
     };
-    let steps = match input::next_signed(bytes, refutation) {
+    let steps = match input::next_signed(input, bytes, refutation) {
         Got::Items(n) => n,
         Got::Broken(fault) => return Outcome::Broken(fault),
     };
     let problem: &[u32] = problem;
     let refutation: &[i32] = refutation;
     refute_within(
+        rt,
+        input,
         version,
         &problem[0..words],
         &refutation[0..steps],
@@ -261,33 +295,46 @@ pub(crate) fn judge_refutation(
     )
 }
 
-fn find_filled(version: u32, problem: &[u32], room: &mut [u8]) {
+fn find_filled(rt: &impl Print, version: u32, problem: &[u32], room: &mut [u8]) {
     fill_bytes(room);
     let r = finder::find::find(version, problem, room);
-    print_bytes(finder::answer::number(r), finder::answer::place(r), room);
+    print_bytes(
+        rt,
+        finder::answer::number(r),
+        finder::answer::place(r),
+        room,
+    );
 }
 
 // Reads what is left of the request; as much of the room is lent as it asks for.
-fn find_within(version: u32, problem: &[u32], room: &mut [u8]) -> Outcome {
-    let size = match input::next_count(room.len()) {
+fn find_within(
+    rt: &impl Print,
+    input: &mut impl Read,
+    version: u32,
+    problem: &[u32],
+    room: &mut [u8],
+) -> Outcome {
+    let size = match input::next_count(input, room.len()) {
         Got::Items(n) => n,
         Got::Broken(fault) => return Outcome::Broken(fault),
     };
-    find_filled(version, problem, &mut room[0..size]);
+    find_filled(rt, version, problem, &mut room[0..size]);
     Outcome::Answered
 }
 
 // Call 6. The room is that of a witness that is read.
 pub(crate) fn find(
+    rt: &impl Print,
+    input: &mut impl Read,
     version: u32,
     bytes: &mut [u8; LARGEST],
     problem: &mut [u32; PROBLEM_WORDS],
     room: &mut [u8; WITNESS_BYTES],
 ) -> Outcome {
-    let words = match input::next_words(bytes, problem) {
+    let words = match input::next_words(input, bytes, problem) {
         Got::Items(n) => n,
         Got::Broken(fault) => return Outcome::Broken(fault),
     };
     let problem: &[u32] = problem;
-    find_within(version, &problem[0..words], room)
+    find_within(rt, input, version, &problem[0..words], room)
 }

@@ -3,8 +3,8 @@ ghost use Rattle.std.specs.Prelude.{◌+◌, ◌*◌, ◌≤◌, length};
 ghost use Rattle.ask.specs.Capacities.{problem_words, signed_words};
 ghost use Rattle.ask.specs.Held.{Held};
 
-use libc::STDIN_FILENO;
 use reading::{Reading, read_all};
+use std::io::Read;
 
 // The most items that a buffer of a request may have.
 pub const PROBLEM_WORDS: usize = 4096;
@@ -57,10 +57,10 @@ pub enum Got {
 }
 
 // Reads so many bytes to the start of the buffer. A part `0..size` asks only that it fits, `..size` more.
-fn fill(bytes: &mut [u8], size: usize) -> Bytes
+fn fill(input: &mut impl Read, bytes: &mut [u8], size: usize) -> Bytes
     requires { size ≤ length bytes.old }
 {
-    let Reading::Bytes(count) = read_all(STDIN_FILENO, &mut bytes[0..size]) else {
+    let Reading::Bytes(count) = read_all(input, &mut bytes[0..size]) else {
         return Bytes::Broken(Fault::Unread);
     };
     if count < size {
@@ -82,9 +82,9 @@ fn number_at(bytes: &[u8], at: usize) -> u32
         | wide(bytes[at + 3])
 }
 
-pub(crate) fn next_call() -> Asked {
+pub(crate) fn next_call(input: &mut impl Read) -> Asked {
     let mut byte = [0u8; 1];
-    match fill(&mut byte, 1) {
+    match fill(input, &mut byte, 1) {
         Bytes::All => Asked::Call(byte[0]),
         Bytes::Broken(fault) => match fault {
             Fault::Unread => Asked::Unread,
@@ -93,19 +93,19 @@ pub(crate) fn next_call() -> Asked {
     }
 }
 
-pub(crate) fn next_number() -> Number {
+pub(crate) fn next_number(input: &mut impl Read) -> Number {
     let mut bytes = [0u8; 4];
-    match fill(&mut bytes, 4) {
+    match fill(input, &mut bytes, 4) {
         Bytes::All => Number::Value(number_at(&bytes, 0)),
         Bytes::Broken(fault) => Number::Broken(fault),
     }
 }
 
 // The count of a buffer that holds `most` items.
-pub(crate) fn next_count(most: usize) -> Got
+pub(crate) fn next_count(input: &mut impl Read, most: usize) -> Got
     ensures { Held result most }
 {
-    let number = match next_number() {
+    let number = match next_number(input) {
         Number::Value(n) => n,
         Number::Broken(fault) => return Got::Broken(fault),
     };
@@ -146,23 +146,27 @@ fn decode_signed(bytes: &[u8], count: usize, words: &mut [i32])
 }
 
 // The count of a buffer of words, with the words' bytes read too.
-fn next_bytes(bytes: &mut [u8; LARGEST], most: usize) -> Got
+fn next_bytes(input: &mut impl Read, bytes: &mut [u8; LARGEST], most: usize) -> Got
     requires { most ≤ signed_words }
     ensures { Held result most }
 {
-    let got = next_count(most);
+    let got = next_count(input, most);
     if let Got::Items(count) = got {
-        if let Bytes::Broken(fault) = fill(bytes, 4 * count) {
+        if let Bytes::Broken(fault) = fill(input, bytes, 4 * count) {
             return Got::Broken(fault);
         }
     }
     got
 }
 
-pub(crate) fn next_words(bytes: &mut [u8; LARGEST], words: &mut [u32; PROBLEM_WORDS]) -> Got
+pub(crate) fn next_words(
+    input: &mut impl Read,
+    bytes: &mut [u8; LARGEST],
+    words: &mut [u32; PROBLEM_WORDS],
+) -> Got
     ensures { Held result problem_words }
 {
-    let got = next_bytes(bytes, PROBLEM_WORDS);
+    let got = next_bytes(input, bytes, PROBLEM_WORDS);
     if let Got::Items(count) = got {
         decode(bytes, count, words);
     }
@@ -170,10 +174,14 @@ pub(crate) fn next_words(bytes: &mut [u8; LARGEST], words: &mut [u32; PROBLEM_WO
 }
 
 // CNF words and refutation words are as many at most.
-pub(crate) fn next_signed(bytes: &mut [u8; LARGEST], words: &mut [i32; CNF_WORDS]) -> Got
+pub(crate) fn next_signed(
+    input: &mut impl Read,
+    bytes: &mut [u8; LARGEST],
+    words: &mut [i32; CNF_WORDS],
+) -> Got
     ensures { Held result signed_words }
 {
-    let got = next_bytes(bytes, CNF_WORDS);
+    let got = next_bytes(input, bytes, CNF_WORDS);
     if let Got::Items(count) = got {
         decode_signed(bytes, count, words);
     }
@@ -181,12 +189,12 @@ pub(crate) fn next_signed(bytes: &mut [u8; LARGEST], words: &mut [i32; CNF_WORDS
 }
 
 // The count of a buffer of bytes, with the bytes read straight into it: a witness, or a text.
-pub(crate) fn next_raw(bytes: &mut [u8]) -> Got
+pub(crate) fn next_raw(input: &mut impl Read, bytes: &mut [u8]) -> Got
     ensures { Held result (length bytes.old) }
 {
-    let got = next_count(bytes.len());
+    let got = next_count(input, bytes.len());
     if let Got::Items(count) = got {
-        if let Bytes::Broken(fault) = fill(bytes, count) {
+        if let Bytes::Broken(fault) = fill(input, bytes, count) {
             return Got::Broken(fault);
         }
     }

@@ -4,12 +4,11 @@ ghost use Rattle.ask.specs.Capacities.{line_bytes};
 
 use crate::input::Fault;
 use clauses::literals::variable;
-use libc::{STDERR_FILENO, STDOUT_FILENO};
 
 const OUT: usize = 4096;
 
 // A write that fails is left so: no later answer could tell of it.
-fn put_byte(byte: u8, at: usize, out: &mut [u8; OUT]) -> usize
+fn put_byte(rt: &impl Print, byte: u8, at: usize, out: &mut [u8; OUT]) -> usize
     requires { at < line_bytes }
     ensures { result < line_bytes }
 {
@@ -17,45 +16,45 @@ fn put_byte(byte: u8, at: usize, out: &mut [u8; OUT]) -> usize
     if at < OUT - 1 {
         return at + 1;
     }
-    io::write_all(STDOUT_FILENO, out);
+    let _ = rt.write_all(out);
     0
 }
 
-fn put_bytes(text: &[u8], at: usize, out: &mut [u8; OUT]) -> usize
+fn put_bytes(rt: &impl Print, text: &[u8], at: usize, out: &mut [u8; OUT]) -> usize
     requires { at < line_bytes }
     ensures { result < line_bytes }
 {
     let mut next = at;
     let mut i = 0;
     while i < text.len() {
-        next = put_byte(text[i], next, out);
+        next = put_byte(rt, text[i], next, out);
         i += 1;
     }
     next
 }
 
-fn put_number(n: u64, at: usize, out: &mut [u8; OUT]) -> usize
+fn put_number(rt: &impl Print, n: u64, at: usize, out: &mut [u8; OUT]) -> usize
     requires { at < line_bytes }
     ensures { result < line_bytes }
 {
     let mut digits = [0u8; 20];
     let size = io::decimal(n, &mut digits);
-    put_bytes(&digits[..size], at, out)
+    put_bytes(rt, &digits[..size], at, out)
 }
 
 // The line that opens an answer.
-fn put_answer(number: u32, place: usize, at: usize, out: &mut [u8; OUT]) -> usize
+fn put_answer(rt: &impl Print, number: u32, place: usize, at: usize, out: &mut [u8; OUT]) -> usize
     requires { at < line_bytes }
     ensures { result < line_bytes }
 {
-    let numbered = put_number(number as u64, at, out);
-    let parted = put_byte(b' ', numbered, out);
-    let placed = put_number(place as u64, parted, out);
-    put_byte(b'\n', placed, out)
+    let numbered = put_number(rt, number as u64, at, out);
+    let parted = put_byte(rt, b' ', numbered, out);
+    let placed = put_number(rt, place as u64, parted, out);
+    put_byte(rt, b'\n', placed, out)
 }
 
 // A line with the words of a work area.
-fn put_area(area: &[u64], at: usize, out: &mut [u8; OUT]) -> usize
+fn put_area(rt: &impl Print, area: &[u64], at: usize, out: &mut [u8; OUT]) -> usize
     requires { at < line_bytes }
     ensures { result < line_bytes }
 {
@@ -63,27 +62,27 @@ fn put_area(area: &[u64], at: usize, out: &mut [u8; OUT]) -> usize
     let mut i = 0;
     while i < area.len() {
         if 0 < i {
-            next = put_byte(b' ', next, out);
+            next = put_byte(rt, b' ', next, out);
         }
-        next = put_number(area[i], next, out);
+        next = put_number(rt, area[i], next, out);
         i += 1;
     }
-    put_byte(b'\n', next, out)
+    put_byte(rt, b'\n', next, out)
 }
 
-fn put_word(w: i32, at: usize, out: &mut [u8; OUT]) -> usize
+fn put_word(rt: &impl Print, w: i32, at: usize, out: &mut [u8; OUT]) -> usize
     requires { at < line_bytes }
     ensures { result < line_bytes }
 {
     if w < 0 {
-        let signed = put_byte(b'-', at, out);
-        return put_number(variable(w) as u64, signed, out);
+        let signed = put_byte(rt, b'-', at, out);
+        return put_number(rt, variable(w) as u64, signed, out);
     }
-    put_number(variable(w) as u64, at, out)
+    put_number(rt, variable(w) as u64, at, out)
 }
 
 // A line with the words of a CNF room.
-fn put_room(room: &[i32], at: usize, out: &mut [u8; OUT]) -> usize
+fn put_room(rt: &impl Print, room: &[i32], at: usize, out: &mut [u8; OUT]) -> usize
     requires { at < line_bytes }
     ensures { result < line_bytes }
 {
@@ -91,12 +90,12 @@ fn put_room(room: &[i32], at: usize, out: &mut [u8; OUT]) -> usize
     let mut i = 0;
     while i < room.len() {
         if 0 < i {
-            next = put_byte(b' ', next, out);
+            next = put_byte(rt, b' ', next, out);
         }
-        next = put_word(room[i], next, out);
+        next = put_word(rt, room[i], next, out);
         i += 1;
     }
-    put_byte(b'\n', next, out)
+    put_byte(rt, b'\n', next, out)
 }
 
 // A byte as a number. It fits by its type.
@@ -110,7 +109,7 @@ fn wide_word(word: u32) -> u64 {
 }
 
 // A line with the bytes of a witness room or a text room, as numbers.
-fn put_raw(room: &[u8], at: usize, out: &mut [u8; OUT]) -> usize
+fn put_raw(rt: &impl Print, room: &[u8], at: usize, out: &mut [u8; OUT]) -> usize
     requires { at < line_bytes }
     ensures { result < line_bytes }
 {
@@ -118,16 +117,16 @@ fn put_raw(room: &[u8], at: usize, out: &mut [u8; OUT]) -> usize
     let mut i = 0;
     while i < room.len() {
         if 0 < i {
-            next = put_byte(b' ', next, out);
+            next = put_byte(rt, b' ', next, out);
         }
-        next = put_number(wide(room[i]), next, out);
+        next = put_number(rt, wide(room[i]), next, out);
         i += 1;
     }
-    put_byte(b'\n', next, out)
+    put_byte(rt, b'\n', next, out)
 }
 
 // A line with the words of a circuit's room.
-fn put_words(room: &[u32], at: usize, out: &mut [u8; OUT]) -> usize
+fn put_words(rt: &impl Print, room: &[u32], at: usize, out: &mut [u8; OUT]) -> usize
     requires { at < line_bytes }
     ensures { result < line_bytes }
 {
@@ -135,64 +134,71 @@ fn put_words(room: &[u32], at: usize, out: &mut [u8; OUT]) -> usize
     let mut i = 0;
     while i < room.len() {
         if 0 < i {
-            next = put_byte(b' ', next, out);
+            next = put_byte(rt, b' ', next, out);
         }
-        next = put_number(wide_word(room[i]), next, out);
+        next = put_number(rt, wide_word(room[i]), next, out);
         i += 1;
     }
-    put_byte(b'\n', next, out)
+    put_byte(rt, b'\n', next, out)
 }
 
 // Writes out what was gathered.
-fn finish(at: usize, out: &[u8; OUT])
+fn finish(rt: &impl Print, at: usize, out: &[u8; OUT])
     requires { at < line_bytes }
 {
     let all: &[u8] = out;
-    io::write_all(STDOUT_FILENO, &all[0..at]);
+    let _ = rt.write_all(&all[0..at]);
 }
 
 // An answer that has no buffers.
-pub(crate) fn print_answer(number: u32, place: usize) {
+pub(crate) fn print_answer(rt: &impl Print, number: u32, place: usize) {
     let mut out = [0u8; OUT];
-    let at = put_answer(number, place, 0, &mut out);
-    finish(at, &out);
+    let at = put_answer(rt, number, place, 0, &mut out);
+    finish(rt, at, &out);
 }
 
 // An answer and the CNF room.
-pub(crate) fn print_room(number: u32, place: usize, room: &[i32]) {
+pub(crate) fn print_room(rt: &impl Print, number: u32, place: usize, room: &[i32]) {
     let mut out = [0u8; OUT];
-    let answered = put_answer(number, place, 0, &mut out);
-    let at = put_room(room, answered, &mut out);
-    finish(at, &out);
+    let answered = put_answer(rt, number, place, 0, &mut out);
+    let at = put_room(rt, room, answered, &mut out);
+    finish(rt, at, &out);
 }
 
 // An answer and the words of a circuit's room.
-pub(crate) fn print_words(number: u32, place: usize, room: &[u32]) {
+pub(crate) fn print_words(rt: &impl Print, number: u32, place: usize, room: &[u32]) {
     let mut out = [0u8; OUT];
-    let answered = put_answer(number, place, 0, &mut out);
-    let at = put_words(room, answered, &mut out);
-    finish(at, &out);
+    let answered = put_answer(rt, number, place, 0, &mut out);
+    let at = put_words(rt, room, answered, &mut out);
+    finish(rt, at, &out);
 }
 
 // An answer and the bytes of a room.
-pub(crate) fn print_bytes(number: u32, place: usize, room: &[u8]) {
+pub(crate) fn print_bytes(rt: &impl Print, number: u32, place: usize, room: &[u8]) {
     let mut out = [0u8; OUT];
-    let answered = put_answer(number, place, 0, &mut out);
-    let at = put_raw(room, answered, &mut out);
-    finish(at, &out);
+    let answered = put_answer(rt, number, place, 0, &mut out);
+    let at = put_raw(rt, room, answered, &mut out);
+    finish(rt, at, &out);
 }
 
 // An answer and both work areas.
-pub(crate) fn print_areas(number: u32, place: usize, by_numbers: &[u64], by_clauses: &[u64]) {
+pub(crate) fn print_areas(
+    rt: &impl Print,
+    number: u32,
+    place: usize,
+    by_numbers: &[u64],
+    by_clauses: &[u64],
+) {
     let mut out = [0u8; OUT];
-    let answered = put_answer(number, place, 0, &mut out);
-    let numbers = put_area(by_numbers, answered, &mut out);
-    let clauses = put_area(by_clauses, numbers, &mut out);
-    finish(clauses, &out);
+    let answered = put_answer(rt, number, place, 0, &mut out);
+    let numbers = put_area(rt, by_numbers, answered, &mut out);
+    let clauses = put_area(rt, by_clauses, numbers, &mut out);
+    finish(rt, clauses, &out);
 }
 
 // An answer, the CNF room and both work areas.
 pub(crate) fn print_all(
+    rt: &impl Print,
     number: u32,
     place: usize,
     room: &[i32],
@@ -200,18 +206,18 @@ pub(crate) fn print_all(
     by_clauses: &[u64],
 ) {
     let mut out = [0u8; OUT];
-    let answered = put_answer(number, place, 0, &mut out);
-    let words = put_room(room, answered, &mut out);
-    let numbers = put_area(by_numbers, words, &mut out);
-    let clauses = put_area(by_clauses, numbers, &mut out);
-    finish(clauses, &out);
+    let answered = put_answer(rt, number, place, 0, &mut out);
+    let words = put_room(rt, room, answered, &mut out);
+    let numbers = put_area(rt, by_numbers, words, &mut out);
+    let clauses = put_area(rt, by_clauses, numbers, &mut out);
+    finish(rt, clauses, &out);
 }
 
 // A request that is not answered has its line among the answers; input that cannot be read has it on standard error.
-pub(crate) fn print_fault(fault: Fault) {
-    match fault {
-        Fault::TooLong => io::write_all(STDOUT_FILENO, b"too long\n"),
-        Fault::CutShort => io::write_all(STDOUT_FILENO, b"cut short\n"),
-        Fault::Unread => io::write_all(STDERR_FILENO, b"ask: standard input could not be read\n"),
+pub(crate) fn print_fault(rt: &(impl Print + Eprint), fault: Fault) {
+    let _ = match fault {
+        Fault::TooLong => rt.println("too long"),
+        Fault::CutShort => rt.println("cut short"),
+        Fault::Unread => rt.eprintln("ask: standard input could not be read"),
     };
 }

@@ -10,7 +10,6 @@ ghost use Rattle.print_cnf.specs.Answered.{answered};
 use answers::limits::{JOB_LIMIT, PROGRAM_ROOM};
 use job_file::print::print_job;
 use job_file::texts::Printed;
-use libc::{STDERR_FILENO, STDIN_FILENO, STDOUT_FILENO};
 use reading::{Reading, read_all};
 
 // One byte more than a job file may have, so that one too many is seen.
@@ -41,28 +40,22 @@ fn answer(got: Reading, input: &[u8], out: &mut [u8; OUTPUT_BYTES]) -> usize
     }
 }
 
-// The line on standard error, if there is one to be said. No exit status can say it: a program here has none.
-fn complain(got: Reading, is_written: bool) {
+// The line on standard error, if there is one to be said: the exit status is that of success all the same. Where this line cannot be written either, nothing is left to say it.
+fn complain(rt: &impl Eprint, got: Reading, is_written: bool) {
     if let Reading::Failed = got {
-        io::write_all(
-            STDERR_FILENO,
-            b"print_cnf: standard input could not be read\n",
-        );
+        let _ = rt.eprintln("print_cnf: standard input could not be read");
         return;
     }
     if !is_written {
-        io::write_all(
-            STDERR_FILENO,
-            b"print_cnf: standard output could not be written\n",
-        );
+        let _ = rt.eprintln("print_cnf: standard output could not be written");
     }
 }
 
-fn main() {
+fn main(rt: HostRuntime) {
     let mut input = [0u8; INPUT_BYTES];
-    let got = read_all(STDIN_FILENO, &mut input);
+    let got = read_all(&mut rt.stdin(), &mut input);
     let mut out = [0u8; OUTPUT_BYTES];
     let length = answer(got, &input, &mut out);
-    let is_written = io::write_all(STDOUT_FILENO, &out[..length]);
-    complain(got, is_written);
+    let is_written = rt.write_all(&out[..length]).is_ok();
+    complain(&rt, got, is_written);
 }

@@ -1,13 +1,13 @@
 -- What a reading says of its buffer. Of the bytes that were read nothing can be said. Assumes nothing.
-use Rattle.std.specs.Prelude.{ℕ, ◌+◌, ◌≤◌, min, ◌≡◌, List, length, drop, ℤ, pos, negsuc}
+use Rattle.std.specs.Prelude.{ℕ, ◌+◌, ◌≤◌, min, ◌≡◌, List, length, drop, Result, Ok, Err}
 use Rattle.std.proofs.Math.Seq.{paste}
 use Rattle.reading.specs.declared.Reading.{Reading}
 use Rattle.reading.specs.declared.Reading.TheVariants.{Bytes, Failed}
 
--- What one call says that was lent so many bytes: below 0 it has failed.
-abbrev pub taken_as : ℤ → ℕ → Reading
-taken_as (pos n) most = Bytes (min n most)
-taken_as (negsuc _) most = Failed
+-- What one call says that was lent so many bytes: at an error it has failed.
+abbrev pub taken_as : {E : Type 0} → Result ℕ E → ℕ → Reading
+taken_as (Ok n) most = Bytes (min n most)
+taken_as (Err _) most = Failed
 
 abbrev pub Within : ℕ → Reading → Type 0
 Within most (Bytes n) = n ≤ most
