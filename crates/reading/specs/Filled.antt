@@ -1,13 +1,18 @@
 -- What a reading says of its buffer. Of the bytes that were read nothing can be said. Assumes nothing.
-use Rattle.std.specs.Prelude.{ℕ, ◌+◌, ◌≤◌, min, ◌≡◌, List, length, drop, Result, Ok, Err}
+use Rattle.std.specs.Prelude.{ℕ, ◌+◌, ◌≤◌, min, ◌≡◌, List, length, drop, ℤ, pos, negsuc, Result, Ok, Err}
 use Rattle.std.proofs.Math.Seq.{paste}
 use Rattle.reading.specs.declared.Reading.{Reading}
 use Rattle.reading.specs.declared.Reading.TheVariants.{Bytes, Failed}
 
--- What one call says that was lent so many bytes: at an error it has failed.
-abbrev pub taken_as : {E : Type 0} → Result ℕ E → ℕ → Reading
-taken_as (Ok n) most = Bytes (min n most)
-taken_as (Err _) most = Failed
+-- A read's answer as one number: how many bytes it has read, and below 0 where it has failed.
+abbrev pub as_answer : {E : Type 0} → Result ℕ E → ℤ
+as_answer (Ok n) = pos n
+as_answer (Err _) = negsuc 0
+
+-- What one call says that was lent so many bytes: below 0 it has failed.
+abbrev pub taken_as : ℤ → ℕ → Reading
+taken_as (pos n) most = Bytes (min n most)
+taken_as (negsuc _) most = Failed
 
 abbrev pub Within : ℕ → Reading → Type 0
 Within most (Bytes n) = n ≤ most

@@ -4,7 +4,7 @@
 #![tactic(auto)]
 
 ghost use Rattle.std.specs.Prelude.{◌-◌, ◌≤◌, min, ◌≡◌, length};
-ghost use Rattle.reading.specs.Filled.{taken_as, Within, Put, Filled};
+ghost use Rattle.reading.specs.Filled.{as_answer, taken_as, Within, Put, Filled};
 ghost use Rattle.reading.specs.Known.{Given, AllGiven};
 
 use std::io;
@@ -23,7 +23,7 @@ pub enum Reading {
 
 // What an answer of `Read::read` says of the buffer that it was lent.
 fn taken(got: io::Result<usize>, part: &[u8]) -> Reading
-    ensures { (result ≡ taken_as got (length part.now)) × Within (length part.now) result }
+    ensures { (result ≡ taken_as (as_answer got) (length part.now)) × Within (length part.now) result }
 {
     match got {
         Ok(n) => Reading::Bytes(least(n, part.len())),
