@@ -2,6 +2,7 @@
 use mathlib.Core.Path.{◌≡◌, refl, sym, ◌∙◌, ap}
 use mathlib.Core.Bool.{Bool, true, false, not, cond}
 use mathlib.Core.List.{List, [], ◌∷◌, ◌++◌}
+use mathlib.Core.Logic.{◌↔◌, ◌⊎◌, inl, inr}
 use Prim.Native.Nat.{ℕ, suc}
 use borrow.Author.Tests.{eqb-false, not-true}
 use lib.Dec.{eqb}
@@ -99,3 +100,16 @@ pub numbered_passing : {A : Type 0} (t : A → Bool) (a : ℕ → Answer) (i : �
     → all_of passing (numbered i xs (λ j x. check (t x) (a j))) ≡ all_of t xs
 numbered_passing t a i [] = refl
 numbered_passing t a i (x ∷ xs) = rw (numbered_passing t a (suc i) xs)
+
+-- An answer by its number comes past checks of other numbers exactly where they pass and what comes after them gives it.
+pub past_checks : (x : Answer) (cs : List Check) (after : Answer) → all_of (other_than x.number) cs ≡ true
+    → (first_failing cs after ≡ x) ↔ ((all_of passing cs ≡ true) × (after ≡ x))
+past_checks x cs after o = (
+  λ e. let pass = passed_by_number x.number cs after o (number_of e) in (pass, sym (first_failing_passed cs after pass) ∙ e),
+  λ h. first_failing_passed cs after h.0 ∙ h.1,
+)
+
+-- Either a check passes, and the answer is that of what comes after it, or it is its refusal.
+pub one_check : {x : Answer} (b : Bool) (after refusal : Answer) → cond b after refusal ≡ x → ((b ≡ true) × (after ≡ x)) ⊎ ((b ≡ false) × (refusal ≡ x))
+one_check true after refusal e = inl (refl, e)
+one_check false after refusal e = inr (refl, e)

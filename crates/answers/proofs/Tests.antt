@@ -183,3 +183,7 @@ module _ {A : Type 0} (f : A → Bool) where
   pub some_of_map : {B : Type 0} (g : B → A) (xs : List B) → some_of f (map g xs) ≡ some_of (λ x. f (g x)) xs
   some_of_map g [] = refl
   some_of_map g (x ∷ xs) = rw (some_of_map g xs)
+
+  pub all_of_each : {B : Type 0} (g : B → A) (xs : List B) → ((x : B) → f (g x) ≡ true) → all_of f (map g xs) ≡ true
+  all_of_each g [] h = refl
+  all_of_each g (x ∷ xs) h = both_true (h x) (all_of_each g xs h)

@@ -1,5 +1,6 @@
 -- What follows from the definitions of specs/.
 pub mod Satisfaction
+pub mod AnyLength
 pub mod Signs
 pub mod Judges
 pub mod WordByWord
@@ -8,10 +9,13 @@ pub mod StepRule
 pub mod NeverAHint
 pub mod Sound
 pub mod ReadBack
+pub mod StepsRead
 pub mod Derivations
 pub mod StepByStep
+pub mod StepsAnswered
 pub mod Splits
 pub mod Complete
 pub mod CnfPassed
+pub mod CnfRead
 pub mod WordSizes
 pub mod RefutableWords

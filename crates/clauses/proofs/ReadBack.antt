@@ -206,3 +206,12 @@ paired_fewer (c ∷ d ∷ cs) = omega (arith, paired_fewer cs)
 
 pub steps_fewer : (ws : List ℤ) → length (steps_of ws) ≤ length ws
 steps_fewer ws = omega (arith, clauses_fewer ws, paired_fewer (clauses_of ws))
+
+-- ════════ For other files ════════
+
+pub hints_are_not_0 : (hs : List ℕ) → all_of (leb 1) hs ≡ true → all_of not_0 (map pos hs) ≡ true
+hints_are_not_0 = hints_no_zeros
+
+pub part_past_clause : (p : Part) (c : Clause) (ws : List ℤ) → all_of not_0 c ≡ true
+    → part_at_end p (ended_by_0 c ++ ws) ≡ part_at_end (other p) ws
+part_past_clause = part_after_clause

@@ -2,5 +2,7 @@
 pub mod Clauses
 pub mod CnfWords
 pub mod Refutations
+pub mod StepsRefused
+pub mod RightSteps
 pub mod Refutable
 pub mod Cases
