@@ -2,26 +2,26 @@
 -- constraints is larger. Assumes nothing.
 use mathlib.Core.Path.{◌≡◌, refl, sym, ◌∙◌, ap}
 use mathlib.Core.Bool.{Bool, true, true≢false}
-use mathlib.Core.List.{List, [], ◌∷◌}
+use mathlib.Core.List.{List, [], ◌∷◌, ◌++◌}
 use Prim.Native.Nat.{ℕ, suc, ◌+◌, ◌*◌, ◌-◌, ◌≤◌, ◌<◌}
 use native.Mathlib.Nat.{add-sub_of_le, mul-le-mul, mul-le-mul_right}
 use native.Mathlib.Omega.{arith}
 use borrow.Author.Tests.{le-leb, lt-ltb}
 use lib.Dec.{ltb}
 use lib.ListN.{length, get_or, replicate, length-replicate, get_or-replicate, get_or-append}
-use lib.Seq.{get_or-drop}
+use lib.Seq.{get_or-drop, get_or-append-add}
 use Rattle.answers.specs.Lists.{numbers, each, all_of, those, sum}
 use Rattle.answers.proofs.Tests.{both_true, all_of_member, those_few}
 use Rattle.answers.proofs.Answers.{passing}
 use Rattle.answers.specs.Limits.{inputs_limit, latches_limit, gates_limit, nodes_limit, bound_limit, constraints_limit}
-use Rattle.meaning.specs.Problem.{Problem, Latch, Node, atom, both, either, next, until, release, latch, node, Outline, header_words, outline, problem_by, problem, word, latch_place, gate_place, node_place, children}
-use Rattle.meaning.specs.Check.{largest_literal, gate_limit, largest_reset, latch_checks, gate_checks, node_checks}
+use Rattle.meaning.specs.Problem.{Problem, Latch, Node, atom, both, either, next, until, release, latch, node, Outline, header_words, outline, problem_by, problem, word, latch_place, gate_place, node_place, children, constraint_place}
+use Rattle.meaning.specs.Check.{largest_literal, gate_limit, largest_reset, latch_checks, gate_checks, node_checks, header_checks, limit_checks, length_checks, constraint_checks, each_below}
 use Rattle.meaning.specs.Proper.{NodeProper, Proper}
 use Rattle.meaning.specs.Cnf.{variables, cnf, cnf_words}
-use Rattle.meaning.specs.Cases.{UntilOrRelease, AtAllLimits, limit_nodes, limit_zeros, limit_words}
+use Rattle.meaning.specs.Cases.{UntilOrRelease, AtAllLimits, limit_nodes, limit_zeros, limit_words, limit_header, constrained_limit_words}
 use Rattle.meaning.specs.Calls.{check_parts, WellFormed}
 use Rattle.meaning.proofs.Numbers.{member_of_numbers, all_of_each_below}
-use Rattle.meaning.proofs.ShownBy.{latch_by, none_in_version_1}
+use Rattle.meaning.proofs.ShownBy.{latch_by, none_in_version_1, inputs_by, bound_by, latches_by, gates_by, nodes_by}
 use Rattle.meaning.proofs.ItemByItem.{◌and◌, all_of_joined}
 use Rattle.meaning.proofs.Check.{well_formed_if_all_pass, proper_if_well_formed}
 use Rattle.meaning.proofs.ClosedForms.{fixed_resets, has_equal_form, has_or_form, has_until_form, Tally, tally, node_count, variables_of, equal_weight, or_weight, selected_weight, values_weight, end_weight, item_totals, variable_count, clause_count, word_count}
@@ -218,3 +218,97 @@ largest_if_proper p proper =
 
 pub largest_cnf : (version : ℕ) (ws : List ℕ) → WellFormed version ws → length (cnf_words (problem version ws)) ≤ 437_012 + 64 * length (problem version ws).constraints
 largest_cnf version ws formed = largest_if_proper (problem version ws) (proper_if_well_formed version ws formed)
+
+-- ════════ With all the constraints ════════
+
+-- The zeros between a header and what comes after them.
+zeros_after : (header rest : List ℕ) (n i : ℕ) → length header ≤ i → i < length header + n → word (header ++ (replicate n 0 ++ rest)) i ≡ 0
+zeros_after header rest n i l h =
+    ap (word (header ++ (replicate n 0 ++ rest))) (sym (add-sub_of_le l))
+    ∙ get_or-append-add header (replicate n 0 ++ rest) (i - length header) 0
+    ∙ get_or-append (replicate n 0) rest 0 (i - length header) (rw length-replicate (omega arith))
+    ∙ get_or-replicate n (i - length header) 0 0 (omega arith)
+
+-- Words of which all between the header and the nodes are zeros.
+module _ (version : ℕ) (ws : List ℕ) (zeros : (i : ℕ) → header_words version ≤ i → i < (outline version ws).nodes_from → word ws i ≡ 0) where
+  abbrev laid : Outline
+  laid = outline version ws
+
+  -- Zeros are in range.
+  latches_pass : (i : ℕ) → i < laid.latches → all_of passing (latch_checks laid ws i) ≡ true
+  latches_pass i h =
+      let at = latch_place laid i in
+      let next : word ws at ≤ largest_literal laid = omega (arith, zeros at (omega arith) (omega arith)) in
+      let reset : word ws (at + 1) ≤ largest_reset = omega (arith, zeros (at + 1) (omega arith) (omega arith)) in
+      both_true (le-leb _ _ next) (both_true (le-leb _ _ reset) refl)
+
+  gates_pass : (j : ℕ) → j < laid.gates → all_of passing (gate_checks laid ws j) ≡ true
+  gates_pass j h =
+      let at = gate_place laid j in
+      let left : word ws at < gate_limit laid j = omega (arith, zeros at (omega arith) (omega arith)) in
+      let right : word ws (at + 1) < gate_limit laid j = omega (arith, zeros (at + 1) (omega arith) (omega arith)) in
+      both_true (le-leb _ _ left) (both_true (le-leb _ _ right) refl)
+
+  constraints_pass : (c : ℕ) → c < laid.constraints → all_of passing (constraint_checks laid ws c) ≡ true
+  constraints_pass c h =
+      let at = constraint_place laid c in
+      let literal : word ws at ≤ largest_literal laid = omega (arith, zeros at (omega arith) (omega arith)) in
+      both_true (le-leb _ _ literal) refl
+
+  -- So they are well formed where the header, the length and the nodes are right.
+  formed_if : all_of passing (header_checks version ws) ≡ true → all_of passing (limit_checks version ws) ≡ true → all_of passing (length_checks laid ws) ≡ true
+      → all_of passing (each_below laid.written_nodes (node_checks children laid ws)) ≡ true → WellFormed version ws
+  formed_if header limits whole nodes =
+      well_formed_if_all_pass version ws
+      ((all_of_joined passing (check_parts version ws)).1
+      (header
+      and limits
+      and whole
+      and all_of_each_below passing (latch_checks laid ws) laid.latches latches_pass
+      and all_of_each_below passing (gate_checks laid ws) laid.gates gates_pass
+      and all_of_each_below passing (constraint_checks laid ws) laid.constraints constraints_pass
+      and nodes
+      and tt))
+
+  -- Every reset is fixed.
+  fixed_at_0 : (i : ℕ) → i < laid.latches → (latch (problem version ws) i).reset ≡ 0
+  unfolding problem
+  fixed_at_0 i h = ap (λ (c : Latch). c.reset) (latch_by laid ws i h) ∙ zeros (latch_place laid i + 1) (omega arith) (omega arith)
+
+  -- And their problem is at all limits where the header and the nodes are.
+  reached_if : word ws 0 ≡ inputs_limit → word ws 1 ≡ latches_limit → word ws 2 ≡ gates_limit → word ws 3 ≡ nodes_limit → word ws 4 ≡ bound_limit
+      → node (problem version ws) 0 ≡ atom 0 → all_of (λ n. has_until_form (node (problem version ws) n)) (numbers 1 (nodes_limit - 1)) ≡ true
+      → AtAllLimits (problem version ws)
+  unfolding problem
+  reached_if inputs latches gates nodes bound first later = record {
+    inputs_are = inputs_by laid ws ∙ inputs;
+    latches_are = latches_by laid ws ∙ latches;
+    resets_fixed = λ i h. omega (arith, fixed_at_0 i (omega arith));
+    gates_are = gates_by laid ws ∙ gates;
+    nodes_are = nodes_by laid ws ∙ nodes;
+    one_atom = (0, first);
+    others = λ n l h. until_or_release (node (problem version ws) n)
+        (all_of_member (λ n. has_until_form (node (problem version ws) n)) (member_of_numbers 1 (nodes_limit - 1) n l (omega arith)) later);
+    bound_is = bound_by laid ws ∙ bound;
+  }
+
+constrained_zeros : (i : ℕ) → header_words 2 ≤ i → i < (outline 2 constrained_limit_words).nodes_from → word constrained_limit_words i ≡ 0
+unfolding constrained_limit_words header_words inputs_limit latches_limit gates_limit nodes_limit bound_limit constraints_limit
+constrained_zeros i l h = zeros_after (limit_header ++ (constraints_limit ∷ [])) limit_nodes (limit_zeros + constraints_limit) i l (omega arith)
+
+pub constrained_limits_formed : WellFormed 2 constrained_limit_words
+unfolding constrained_limit_words header_words inputs_limit latches_limit gates_limit nodes_limit bound_limit constraints_limit
+constrained_limits_formed = formed_if 2 constrained_limit_words constrained_zeros refl refl refl refl
+
+pub constrained_limits_reached : AtAllLimits (problem 2 constrained_limit_words) × (length (problem 2 constrained_limit_words).constraints ≡ constraints_limit)
+unfolding constrained_limit_words header_words problem_by problem inputs_limit latches_limit gates_limit nodes_limit bound_limit constraints_limit
+constrained_limits_reached = (reached_if 2 constrained_limit_words constrained_zeros refl refl refl refl refl refl refl, refl)
+
+-- 437,012 words, and 64 for each of 16 constraints.
+pub largest_of_all : length (cnf_words (problem 2 constrained_limit_words)) ≡ 438_036
+unfolding constraints_limit
+largest_of_all = at_all_limits (problem 2 constrained_limit_words) constrained_limits_reached.0 ∙ rw constrained_limits_reached.1
+
+pub no_larger : (version : ℕ) (ws : List ℕ) → WellFormed version ws → length (cnf_words (problem version ws)) ≤ 438_036
+unfolding constraints_limit
+no_larger version ws formed = omega (arith, largest_cnf version ws formed, (proper_if_well_formed version ws formed).constraints_within)

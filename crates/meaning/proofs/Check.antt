@@ -321,3 +321,60 @@ proper_if_well_formed version ws formed = record {
 
     is_gate : (j : ℕ) → j < length (problem_by o ws).gates → j < o.gates
     is_gate j l = rw gates_by at l
+
+-- ════════ An answer by another number ════════
+
+-- The numbers of a problem's checks.
+abbrev pub check_numbers : List ℕ
+check_numbers = 1 ∷ 2 ∷ 3 ∷ 4 ∷ 5 ∷ 15 ∷ []
+
+-- A number is none of those.
+abbrev pub Apart : ℕ → List ℕ → Type 0
+Apart k ns = all_of (λ n. not (eqb n k)) ns ≡ true
+
+module _ (version : ℕ) (ws : List ℕ) where
+  abbrev laid : Outline
+  laid = outline version ws
+
+  pub all_checks_apart : (k : ℕ) → Apart k check_numbers → all_of (other_than k) (all_checks version ws) ≡ true
+  all_checks_apart k apart =
+      (all_of_joined (other_than k) (check_parts version ws)).1
+      (both_true (is 5 (lit< tt)) (both_true one refl)
+      and both_true two (both_true two (both_true two (both_true two (both_true two (both_true two refl)))))
+      and both_true one refl
+      and all_of_each_below (other_than k) (latch_checks laid ws) laid.latches (λ i l. both_true four (both_true (is 2 (lit< tt)) refl))
+      and all_of_each_below (other_than k) (gate_checks laid ws) laid.gates (λ j l. both_true four (both_true four refl))
+      and all_of_each_below (other_than k) (constraint_checks laid ws) laid.constraints (λ c l. both_true four refl)
+      and all_of_each_below (other_than k) (node_checks children laid ws) laid.written_nodes (λ n l. both_true five (both_true five (both_true five refl)))
+      and tt)
+    where
+      is : (i : ℕ) → i < 6 → not (eqb (get_or check_numbers i 0) k) ≡ true
+      is i l = all_of_at (λ n. not (eqb n k)) check_numbers i 0 apart l
+
+      one : not (eqb 1 k) ≡ true
+      one = is 0 (lit< tt)
+
+      two : not (eqb 2 k) ≡ true
+      two = is 1 (lit< tt)
+
+      four : not (eqb 4 k) ≡ true
+      four = is 3 (lit< tt)
+
+      five : not (eqb 5 k) ≡ true
+      five = is 4 (lit< tt)
+
+-- An answer by a number that the check does not have comes from what comes after it, of well-formed words.
+pub well_formed_by_number : (version : ℕ) (ws : List ℕ) (after : Answer) (k : ℕ) → Apart k check_numbers
+    → (problem_checked version ws after).number ≡ k → WellFormed version ws
+well_formed_by_number version ws after k apart e =
+    well_formed_if_all_pass version ws
+    (passed_by_number k (all_checks version ws) after (all_checks_apart version ws k apart) (rw checked_by_all at e))
+
+pub past_check : (version : ℕ) (ws : List ℕ) (after x : Answer) → Apart x.number check_numbers
+    → (problem_checked version ws after ≡ x) ↔ (WellFormed version ws × (after ≡ x))
+past_check version ws after x apart = (
+  λ e.
+      let formed = well_formed_by_number version ws after x.number apart (number_of e) in
+      (formed, sym (checked_if_well_formed version ws after formed) ∙ e),
+  λ h. checked_if_well_formed version ws after h.0 ∙ h.1,
+)

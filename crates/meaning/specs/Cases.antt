@@ -190,3 +190,13 @@ limit_zeros = 2 * latches_limit + 2 * gates_limit
 unfoldable pub limit_words : List ℕ
 unfolding inputs_limit latches_limit gates_limit nodes_limit bound_limit
 limit_words = inputs_limit ∷ latches_limit ∷ gates_limit ∷ nodes_limit ∷ bound_limit ∷ (replicate limit_zeros 0 ++ limit_nodes)
+
+-- "I, L, A, N, k", each at its limit.
+abbrev pub limit_header : List ℕ
+limit_header = inputs_limit ∷ latches_limit ∷ gates_limit ∷ nodes_limit ∷ bound_limit ∷ []
+
+-- The same in version 2, with as many constraints as there can be, each of them a 0 too: no CNF has more words (`largest_of_all` and `no_larger` of
+-- proofs/AllLimits).
+unfoldable pub constrained_limit_words : List ℕ
+unfolding inputs_limit latches_limit gates_limit nodes_limit bound_limit constraints_limit
+constrained_limit_words = limit_header ++ (constraints_limit ∷ (replicate (limit_zeros + constraints_limit) 0 ++ limit_nodes))

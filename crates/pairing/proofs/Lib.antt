@@ -30,5 +30,6 @@ pub mod AtOrBelow
 pub mod Refutable
 pub mod ListedWitnesses
 pub mod FirstWitness
+pub mod EveryTick
 pub mod Stuck
 pub mod Thirteen

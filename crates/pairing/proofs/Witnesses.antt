@@ -1,7 +1,7 @@
 -- The bytes that the judge accepts are the witnesses. Assumes nothing.
 use mathlib.Core.Path.{◌≡◌, refl, sym, ◌∙◌}
 use mathlib.Core.Logic.{◌↔◌}
-use mathlib.Core.Bool.{Bool, true, false, beq}
+use mathlib.Core.Bool.{Bool, true, false, beq, not}
 use mathlib.Core.List.{List, [], ◌∷◌, map}
 use Prim.Native.Nat.{ℕ, zero, suc, ◌+◌, ◌<◌, ◌≤◌, zero-le, suc-le-suc}
 use native.Mathlib.Nat.{le_of_suc-le-suc, not-suc-le-zero, add-zero, zero-add}
@@ -12,8 +12,8 @@ use lib.ListN.{length, get_or}
 use lib.Seq.{ext_get_or}
 use Rattle.answers.specs.Lists.{numbers, numbered, all_of, joined}
 use Rattle.answers.specs.Answers.{Check, check, first_failing, granted, bad_witness, against_reset, open_loop}
-use Rattle.answers.proofs.Tests.{both_true, first_true, second_true, eqb_self, all_of_numbered, all_of_map}
-use Rattle.answers.proofs.Answers.{passing, refusing, first_failing_passed, first_failing_joined, all_pass_if_granted}
+use Rattle.answers.proofs.Tests.{both_true, first_true, second_true, eqb_self, all_of_numbered, all_of_map, all_of_each}
+use Rattle.answers.proofs.Answers.{passing, refusing, first_failing_passed, first_failing_joined, all_pass_if_granted, other_than}
 use Rattle.meaning.specs.Witnesses.{constraint_broken, witness_length, byte, shape, first_latches, position, rows, Closes, Shows, Witness, byte_limit, byte_checks, reset_checks, loop_checks, position_checks}
 use Rattle.meaning.specs.Problem.{Problem, latch}
 use Rattle.meaning.specs.Runs.{next_values, meets_reset, meets_constraints, StartsRight}
@@ -228,3 +228,61 @@ module _ (p : Problem) (bs : List ℕ) where
   -- The judge accepts exactly the witnesses.
   pub accepted_is_witness : (judge_bytes p bs ≡ granted 0) ↔ Witness p bs
   accepted_is_witness = (λ e. witness_if_passed (passed_if_granted p bs e), λ w. granted_if_passed p bs (passed_if_witness w))
+
+-- ════════ Each kind of check by itself ════════
+
+-- Their numbers are 7, 8, 9, 20 and 10.
+module _ (p : Problem) (bs : List ℕ) (k : ℕ) where
+  pub byte_checks_other : not (eqb 7 k) ≡ true → all_of (other_than k) (byte_checks p bs) ≡ true
+  byte_checks_other e = both_true e (all_of_numbered (other_than k) 0 bs _ (λ i b. e))
+
+  pub reset_checks_other : not (eqb 8 k) ≡ true → all_of (other_than k) (reset_checks p bs) ≡ true
+  reset_checks_other e = all_of_each (other_than k) _ (numbers 0 (length p.latches)) (λ i. e)
+
+  pub loop_checks_other : (s : Shape) → not (eqb 9 k) ≡ true → all_of (other_than k) (loop_checks p bs s) ≡ true
+  loop_checks_other prefix e = refl
+  loop_checks_other (lasso l) e = all_of_each (other_than k) _ (numbers 0 (length p.latches)) (λ i. e)
+
+  pub position_checks_other : not (eqb 20 k) ≡ true → all_of (other_than k) (position_checks p bs) ≡ true
+  position_checks_other e = all_of_each (other_than k) _ (numbers 0 (p.bound + 1)) (λ t. e)
+
+module _ (p : Problem) (bs : List ℕ) where
+  pub length_if_pass : all_of passing (byte_checks p bs) ≡ true → length bs ≡ witness_length p
+  length_if_pass = length_if_passes p bs
+
+  pub start_if_pass : all_of passing (byte_checks p bs) ≡ true → byte bs 0 ≤ p.bound + 1
+  start_if_pass e = bytes_if_pass p bs e 0 (omega (arith, length_if_pass e))
+
+  pub bits_if_pass : all_of passing (byte_checks p bs) ≡ true → (i : ℕ) → 1 ≤ i → i < length bs → byte bs i ≤ 1
+  bits_if_pass e zero h l = absurd (not-suc-le-zero h)
+  bits_if_pass e (suc i) h l = bytes_if_pass p bs e (suc i) l
+
+  pub pass_if_bits : length bs ≡ witness_length p → byte bs 0 ≤ p.bound + 1 → ((i : ℕ) → 1 ≤ i → i < length bs → byte bs i ≤ 1)
+      → all_of passing (byte_checks p bs) ≡ true
+  pass_if_bits right start bits = pass_if_bytes p bs right within
+    where
+      within : (i : ℕ) → i < length bs → byte bs i ≤ byte_limit p i
+      within zero l = start
+      within (suc i) l = bits (suc i) (suc-le-suc zero-le) l
+
+  pub starts_if_pass : all_of passing (reset_checks p bs) ≡ true → StartsRight p (first_latches p bs)
+  starts_if_pass = starts_if_passes p bs
+
+  pub pass_if_starts : StartsRight p (first_latches p bs) → all_of passing (reset_checks p bs) ≡ true
+  pass_if_starts = passes_if_starts p bs
+
+  abbrev pub loop_test_at : ℕ → ℕ → Bool
+  loop_test_at l i = beq (get_or (next_values p (position p bs p.bound)) i false) (get_or (position p bs l).latches i false)
+
+  pub shows_if_pass : (s : Shape) → length bs ≡ witness_length p → StartWithin s p → all_of passing (loop_checks p bs s) ≡ true
+      → bounded_value s p.bound (rows p bs) (formula p) 0 ≡ true → Shows p bs s
+  shows_if_pass = shows_if_passes p bs
+
+  abbrev pub position_test_at : ℕ → Bool
+  position_test_at t = meets_constraints p (position p bs t)
+
+  pub met_if_pass : all_of passing (position_checks p bs) ≡ true → (t : ℕ) → t ≤ p.bound → meets_constraints p (position p bs t) ≡ true
+  met_if_pass = met_if_passes p bs
+
+  pub pass_if_met : ((t : ℕ) → t ≤ p.bound → meets_constraints p (position p bs t) ≡ true) → all_of passing (position_checks p bs) ≡ true
+  pass_if_met = passes_if_met p bs
