@@ -4,7 +4,7 @@ use mathlib.Core.Bool.{Bool, true, false, cond}
 use mathlib.Core.List.{List, [], ◌∷◌, ◌++◌, append_assoc}
 use Prim.Native.Nat.{ℕ, zero, suc, ◌+◌, ◌*◌, ◌≤◌, ◌<◌}
 use native.Mathlib.Omega.{arith}
-use borrow.Author.Tests.{leb-true, ltb-true}
+use borrow.Author.Tests.{leb-true, ltb-true, eqb-true}
 use lib.Dec.{eqb}
 use lib.ListN.{length, get_or, take, drop, length-append, get_or-append}
 use lib.Seq.{drop-drop, get_or-append-add}
@@ -19,6 +19,7 @@ use Rattle.aiger.specs.Reads.{numbers_kept, Fitting}
 use Rattle.aiger.proofs.Kept.{Test, pass, pass_length, pass_append, pass_first, pass_second, pass_at, each_length, Keeping}
 use Rattle.aiger.proofs.KeptNumbers.{latch_tests, output_tests, gate_tests, lines_tests, lines_pass, lines_count, opening_tests, opening_passes, Opened, opened_if, in_order_length}
 use Rattle.aiger.proofs.CheckedCircuit.{GoodCircuit}
+use Rattle.aiger.proofs.Exact.{numbers_in, place_in, left_in, not_found}
 
 -- ════════ Tests by place ════════
 
@@ -199,3 +200,41 @@ after_good (fault p) e = tt
 pub read_good : (text ws : List ℕ) (p : ℕ) (left : List ℕ) → circuit_read text ≡ found ws p left → GoodCircuit ws
 unfolding circuit_read
 read_good text ws p left e = subst Good e (after_good (in_turn opening 0 text) (opening_passes 0 text))
+
+-- ════════ The header and the lines ════════
+
+-- The header's numbers, and those of the lines after it.
+pub record HeaderRead (x : Reading) (ws : List ℕ) (p : ℕ) (left : List ℕ) : Type 0 where
+  pub header : List ℕ
+  pub place : ℕ
+  pub rest : List ℕ
+  pub kept : List ℕ
+  pub header_is : x ≡ found header place rest
+  pub variables_are : word header 0 ≡ largest_variable (sizes_read header)
+  pub lines_are : in_turn (lines_due (sizes_read header)) place rest ≡ found kept p left
+  pub words_made : ws ≡ in_order (sizes_read header) kept
+
+pub header_read : (x : Reading) (ws : List ℕ) (p : ℕ) (left : List ℕ) → after_opening x ≡ found ws p left → HeaderRead x ws p left
+header_read (fault o) ws p left e = absurd (not_found e)
+header_read (found hs q u) ws p left e = judged (eqb (word hs 0) (largest_variable (sizes_read hs))) refl e
+  where
+    lines : word hs 0 ≡ largest_variable (sizes_read hs) → (y : Reading) → in_turn (lines_due (sizes_read hs)) q u ≡ y
+        → ordered (sizes_read hs) y ≡ found ws p left → HeaderRead (found hs q u) ws p left
+    lines m (fault o) f g = absurd (not_found g)
+    lines m (found ns o v) f g =
+        record {
+          header = hs;
+          place = q;
+          rest = u;
+          kept = ns;
+          header_is = refl;
+          variables_are = m;
+          lines_are = f ∙ ap (λ (k : ℕ). found ns k v) (ap place_in g) ∙ ap (found ns p) (ap left_in g);
+          words_made = sym (ap numbers_in g);
+        }
+
+    judged : (b : Bool) → eqb (word hs 0) (largest_variable (sizes_read hs)) ≡ b
+        → cond b (ordered (sizes_read hs) (in_turn (lines_due (sizes_read hs)) q u)) (fault variable_place) ≡ found ws p left
+        → HeaderRead (found hs q u) ws p left
+    judged true f g = lines (eqb-true (word hs 0) (largest_variable (sizes_read hs)) f) (in_turn (lines_due (sizes_read hs)) q u) refl g
+    judged false f g = absurd (not_found g)

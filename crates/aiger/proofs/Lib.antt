@@ -21,6 +21,12 @@ pub mod ClosedLines
 pub mod Unread
 pub mod RoundTrips
 pub mod Unique
+pub mod Exact
+pub mod ExactWords
+pub mod ExactLatch
+pub mod ExactLines
+pub mod Refused
+pub mod AcceptedTexts
 pub mod Lazy
 pub mod LazyTexts
 pub mod LazyWords

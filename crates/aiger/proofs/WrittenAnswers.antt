@@ -1,13 +1,13 @@
 -- What writing answers: the check's refusal, the bytes needed, or those written. Assumes nothing.
 use mathlib.Core.Path.{◌≡◌, refl, sym, ◌∙◌, ap}
-use mathlib.Core.Bool.{true, false}
+use mathlib.Core.Bool.{true, false, cond}
 use mathlib.Core.List.{List, [], ◌∷◌}
 use Prim.Native.Nat.{ℕ, ◌≤◌, ◌<◌}
 use native.Mathlib.Omega.{arith}
 use borrow.Author.Tests.{le-leb, lt-leb, ne_eqb}
 use lib.Dec.{leb, eqb}
 use lib.ListN.{length}
-use Rattle.answers.specs.Answers.{Check, granted}
+use Rattle.answers.specs.Answers.{Check, granted, Answer, first_failing_part, output_room_too_small}
 use Rattle.answers.specs.Limits.{longest_text}
 use Rattle.text.specs.Promise.{largest_size}
 use Rattle.problem.specs.declared.Refusal.{Refusal}
@@ -22,8 +22,9 @@ use Rattle.aiger.specs.Calls.{room_check, write_answer, room_after_writing}
 use Rattle.aiger.specs.Promise.{answer_of, WrittenAs}
 use Rattle.aiger.specs.Reads.{Fitting}
 use Rattle.aiger.specs.Writes.{Lays}
-use Rattle.aiger.proofs.CheckedCircuit.{GoodCircuit, more_if_good, refused_whatever}
+use Rattle.aiger.proofs.CheckedCircuit.{GoodCircuit, more_if_good, refused_whatever, good_by_number}
 use Rattle.aiger.proofs.TextLengths.{text_within}
+use Rattle.answers.proofs.Answers.{number_of, parts_append}
 
 -- What is checked after the words.
 abbrev room_part : List ℕ → List ℕ → List (List Check)
@@ -78,3 +79,23 @@ module _ {ws : List ℕ} (good : GoodCircuit ws) {s : Sizes} (e : s ≡ sizes ws
               ∙ sym (more_if_good ws (room_part ws room) (granted (length (circuit_text ws))) good ∙ rw fits);
           room_after = (as_circuit a).held (omega arith);
         }
+
+-- ════════ An answer by its number ════════
+
+module _ (ws : List ℕ) (room : ℕ) where
+  abbrev room_checked : List (List Check)
+  room_checked = (room_check (length (circuit_text ws)) room ∷ []) ∷ []
+
+  -- A number that no check of the words has comes from the room.
+  pub good_at : (k : ℕ) → ((n : ℕ) → 1 ≤ n → n ≤ 4 → n ≡ k → ⊥) → (write_answer ws room).number ≡ k → GoodCircuit ws
+  unfolding write_answer
+  good_at k other e =
+      good_by_number ws k (first_failing_part room_checked (granted (length (circuit_text ws)))) other
+      (sym (number_of (parts_append (circuit_parts ws) room_checked (granted (length (circuit_text ws))))) ∙ e)
+
+  abbrev pub room_answer : Answer
+  room_answer = cond (leb (length (circuit_text ws)) room) (granted (length (circuit_text ws))) (output_room_too_small (length (circuit_text ws)))
+
+  pub good_answer : GoodCircuit ws → write_answer ws room ≡ room_answer
+  unfolding write_answer
+  good_answer good = more_if_good ws room_checked (granted (length (circuit_text ws))) good
