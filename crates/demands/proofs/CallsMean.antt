@@ -2,7 +2,7 @@
 use mathlib.Core.Path.{◌≡◌, refl, sym, ◌∙◌, ap}
 use mathlib.Core.List.{List}
 use mathlib.Core.Logic.{◌↔◌}
-use Prim.Native.Nat.{ℕ, ◌≤◌}
+use Prim.Native.Nat.{ℕ, ◌≤◌, ◌+◌, ◌<◌}
 use lib.IntN.{ℤ}
 use lib.ListN.{length}
 use Rattle.answers.specs.Answers.{granted}
@@ -10,11 +10,11 @@ use Rattle.answers.proofs.Answers.{number_of}
 use Rattle.refutation.specs.declared.RefutationAnswer.{RefutationAnswer}
 use Rattle.refutation.specs.declared.RefutationAnswer.TheVariants.{BadCnf}
 use Rattle.refutation.specs.Promise.{answer_of, Judged}
-use Rattle.meaning.specs.Problem.{Problem, problem}
+use Rattle.meaning.specs.Problem.{Problem, problem, outline, latch}
 use Rattle.meaning.specs.Proper.{Proper}
-use Rattle.meaning.specs.Runs.{Position, EndlessRun}
+use Rattle.meaning.specs.Runs.{Position, EndlessRun, values}
 use Rattle.meaning.specs.Formulas.{formula, Holds}
-use Rattle.meaning.specs.Bounded.{prefix, lasso}
+use Rattle.meaning.specs.Bounded.{prefix, lasso, prefix_value}
 use Rattle.meaning.specs.Witnesses.{shape, first_latches, inputs_at, lasso_path, Witness}
 use Rattle.meaning.specs.Cnf.{cnf, cnf_words, variables}
 use Rattle.meaning.specs.Calls.{WellFormed, judge_bytes, judge_witness}
@@ -37,6 +37,8 @@ use Rattle.checker.specs.declared.Refuted.{Refuted}
 use Rattle.checker.specs.declared.Refuted.TheVariants.{Yes}
 use Rattle.checker.specs.Refutation.{refuted_answer, JudgedAs}
 use Rattle.checker.proofs.ProblemRefutation.{judged_as_clauses, clauses_not_16}
+use mathlib.Core.Bool.{false}
+use Rattle.pairing.proofs.EveryTick.{at_every_tick}
 
 -- ════════ The check ════════
 
@@ -96,3 +98,21 @@ pub never_16 : (p : Problem) → Proper p → {refutation : List ℤ} {numbers c
 never_16 p proper {refutation} {numbers} {clauses} j i e =
     clauses_not_16 (variables p) (cnf p) refutation (length numbers) (length clauses)
     (number_of (sym (judged_as_clauses p proper refutation (length numbers) (length clauses)) ∙ sym j.answered ∙ ap answer_of e))
+
+-- ════════ The record's outline ════════
+
+-- The outline of the check's record is that of the version and the words.
+pub record_outlined : {version : ℕ} {ws : List ℕ} {g : ProblemRecord} → checking.CheckedAs version ws (checks.Good g)
+    → checking.outline_of g.outline ≡ outline version ws
+record_outlined c = c.outlined.outline_is
+
+-- ════════ Every latch free ════════
+
+-- A yes to a refutation of a problem whose latches are all free says so of every position of its endless runs.
+pub refuted_at_every_tick : {version : ℕ} {ws : List ℕ} {refutation room : List ℤ} {numbers clauses : List ℕ}
+    {r : Refuted} {room' : List ℤ} {numbers' clauses' : List ℕ}
+    → JudgedAs version ws refutation room numbers clauses r room' numbers' clauses' → r ≡ Yes
+    → ((i : ℕ) → i < length (problem version ws).latches → (latch (problem version ws) i).reset ≡ 2)
+    → (path : ℕ → Position) → EndlessRun (problem version ws) path → (n : ℕ)
+    → prefix_value (problem version ws).bound (λ i. values (problem version ws) (path (n + i))) (formula (problem version ws)) 0 ≡ false
+refuted_at_every_tick {version} {ws} judged accepted free = at_every_tick (problem version ws) free (accepted_refutation judged accepted).1.at_k

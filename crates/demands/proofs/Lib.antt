@@ -4,3 +4,12 @@ pub mod Refutable
 pub mod ByRecord
 pub mod OtherCalls
 pub mod Demands
+pub mod BeforeSteps
+pub mod LeftBuffers
+pub mod Buffers
+pub mod RoomRefused
+pub mod StepsRefused
+pub mod RunRefused
+pub mod NoneAtAll
+pub mod VersionOneKept
+pub mod PrintedKept
