@@ -13,3 +13,6 @@ pub mod RunRefused
 pub mod NoneAtAll
 pub mod VersionOneKept
 pub mod PrintedKept
+pub mod Refusals
+pub mod Requests
+pub mod Further
