@@ -58,7 +58,7 @@ pub encoded_buffers : {version : ℕ} {ws : List ℕ} {before : List ℤ} {r : E
     × KeptPast (length (cnf_words (problem version ws))) before after
 encoded_buffers = Rattle.demands.proofs.Buffers.encoded_buffers
 
--- The finder; what the room holds at a yes is `found_first` of Requests.
+-- The finder; what the room holds at a yes is `found_first` of Demands.
 pub found_buffers : {version : ℕ} {ws before : List ℕ} {r : Finding} {after : List ℕ} → FoundAs version ws before r after
     → ((finding_answer r).number ≢ 0 → after ≡ before) × KeptPast (witness_length (problem version ws)) before after
 found_buffers = Rattle.demands.proofs.Buffers.found_buffers

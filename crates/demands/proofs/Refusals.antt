@@ -1,5 +1,5 @@
 -- Beside the page of Demands: of the calls, exactly when a refusal comes, and with what place. 17, 18, and 6 and 12 by the numbers of the check's record
--- stand there.
+-- stand there; 1 to 5, 7, 8, 11, 15 and 16 are read off their definitions, where the first check that fails answers, with its own place.
 -- Each theorem is stated in full, and is proved by the one that it names. Sentences in quotes are those of documents 01 and 02. Assumes nothing.
 use mathlib.Core.{Path.◌≡◌, List.List, List.[], Logic.◌↔◌, Logic.◌⊎◌}
 use mathlib.Core.Bool.{true, false}

@@ -312,3 +312,9 @@ largest_of_all = at_all_limits (problem 2 constrained_limit_words) constrained_l
 pub no_larger : (version : ℕ) (ws : List ℕ) → WellFormed version ws → length (cnf_words (problem version ws)) ≤ 438_036
 unfolding constraints_limit
 no_larger version ws formed = omega (arith, largest_cnf version ws formed, (proper_if_well_formed version ws formed).constraints_within)
+
+-- ════════ One node of the lightest form ════════
+
+-- Node 0 of a proper problem has the form x=a.
+pub atom_if_proper : (p : Problem) → Proper p → 1 ≤ (tally p).equals
+atom_if_proper p proper = some_equal p.nodes proper.nodes_some (first_is_atom p (node p 0) (proper.nodes_proper 0 proper.nodes_some))

@@ -200,3 +200,16 @@ limit_header = inputs_limit ∷ latches_limit ∷ gates_limit ∷ nodes_limit �
 unfoldable pub constrained_limit_words : List ℕ
 unfolding inputs_limit latches_limit gates_limit nodes_limit bound_limit constraints_limit
 constrained_limit_words = limit_header ++ (constraints_limit ∷ (replicate (limit_zeros + constraints_limit) 0 ++ limit_nodes))
+
+-- T's CNF has 37 words, so a CNF room of 37 is enough for both refutations above, and one of 36 is refused by 6 with what is needed.
+pub t_is_refuted_in_37 : judge_refutation 1 t_words t_steps 37 7 13 ≡ answer 0 0
+unfolding header_words problem_by problem cnf cnf_words variables inputs_limit latches_limit gates_limit nodes_limit bound_limit constraints_limit judge_refutation refutation_checks area_checks step_accepted
+t_is_refuted_in_37 = refl
+
+pub t_is_not_refuted_in_37 : judge_refutation 1 t_words t_other_steps 37 7 13 ≡ answer 13 0
+unfolding header_words problem_by problem cnf cnf_words variables inputs_limit latches_limit gates_limit nodes_limit bound_limit constraints_limit judge_refutation refutation_checks area_checks step_accepted
+t_is_not_refuted_in_37 = refl
+
+pub t_needs_37 : judge_refutation 1 t_words t_steps 36 7 13 ≡ answer 6 37
+unfolding header_words problem_by problem cnf cnf_words variables inputs_limit latches_limit gates_limit nodes_limit bound_limit constraints_limit judge_refutation refutation_checks area_checks step_accepted
+t_needs_37 = refl
