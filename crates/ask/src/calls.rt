@@ -20,27 +20,15 @@ const ROOM_FILL: i32 = 7;
 const BYTE_FILL: u8 = 7;
 
 fn fill_area(area: &mut [u64]) {
-    let mut i = 0;
-    while i < area.len() {
-        area[i] = AREA_FILL;
-        i += 1;
-    }
+    area.fill(AREA_FILL);
 }
 
 fn fill_room(room: &mut [i32]) {
-    let mut i = 0;
-    while i < room.len() {
-        room[i] = ROOM_FILL;
-        i += 1;
-    }
+    room.fill(ROOM_FILL);
 }
 
 pub(crate) fn fill_bytes(room: &mut [u8]) {
-    let mut i = 0;
-    while i < room.len() {
-        room[i] = BYTE_FILL;
-        i += 1;
-    }
+    room.fill(BYTE_FILL);
 }
 
 // Call 1.

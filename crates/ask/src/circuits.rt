@@ -8,11 +8,7 @@ use std::io::Read;
 const WORD_FILL: u32 = 7;
 
 fn fill_words(room: &mut [u32]) {
-    let mut i = 0;
-    while i < room.len() {
-        room[i] = WORD_FILL;
-        i += 1;
-    }
+    room.fill(WORD_FILL);
 }
 
 fn read_filled(rt: &impl Print, text: &[u8], room: &mut [u32]) {

@@ -119,10 +119,8 @@ pub(crate) fn next_count(input: &mut impl Read, most: usize) -> Got
 fn decode(bytes: &[u8], count: usize, words: &mut [u32])
     requires { (4 * count ≤ length bytes.now) × (count ≤ length words.old) }
 {
-    let mut i = 0;
-    while i < count {
+    for i in 0..count {
         words[i] = number_at(bytes, 4 * i);
-        i += 1;
     }
 }
 
@@ -138,10 +136,8 @@ fn signed(word: u32) -> i32 {
 fn decode_signed(bytes: &[u8], count: usize, words: &mut [i32])
     requires { (4 * count ≤ length bytes.now) × (count ≤ length words.old) }
 {
-    let mut i = 0;
-    while i < count {
+    for i in 0..count {
         words[i] = signed(number_at(bytes, 4 * i));
-        i += 1;
     }
 }
 

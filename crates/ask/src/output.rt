@@ -25,10 +25,8 @@ fn put_bytes(rt: &impl Print, text: &[u8], at: usize, out: &mut [u8; OUT]) -> us
     ensures { result < line_bytes }
 {
     let mut next = at;
-    let mut i = 0;
-    while i < text.len() {
-        next = put_byte(rt, text[i], next, out);
-        i += 1;
+    for byte in text {
+        next = put_byte(rt, *byte, next, out);
     }
     next
 }
@@ -59,13 +57,11 @@ fn put_area(rt: &impl Print, area: &[u64], at: usize, out: &mut [u8; OUT]) -> us
     ensures { result < line_bytes }
 {
     let mut next = at;
-    let mut i = 0;
-    while i < area.len() {
+    for (i, word) in area.iter().enumerate() {
         if 0 < i {
             next = put_byte(rt, b' ', next, out);
         }
-        next = put_number(rt, area[i], next, out);
-        i += 1;
+        next = put_number(rt, *word, next, out);
     }
     put_byte(rt, b'\n', next, out)
 }
@@ -87,13 +83,11 @@ fn put_room(rt: &impl Print, room: &[i32], at: usize, out: &mut [u8; OUT]) -> us
     ensures { result < line_bytes }
 {
     let mut next = at;
-    let mut i = 0;
-    while i < room.len() {
+    for (i, word) in room.iter().enumerate() {
         if 0 < i {
             next = put_byte(rt, b' ', next, out);
         }
-        next = put_word(rt, room[i], next, out);
-        i += 1;
+        next = put_word(rt, *word, next, out);
     }
     put_byte(rt, b'\n', next, out)
 }
@@ -114,13 +108,11 @@ fn put_raw(rt: &impl Print, room: &[u8], at: usize, out: &mut [u8; OUT]) -> usiz
     ensures { result < line_bytes }
 {
     let mut next = at;
-    let mut i = 0;
-    while i < room.len() {
+    for (i, byte) in room.iter().enumerate() {
         if 0 < i {
             next = put_byte(rt, b' ', next, out);
         }
-        next = put_number(rt, wide(room[i]), next, out);
-        i += 1;
+        next = put_number(rt, wide(*byte), next, out);
     }
     put_byte(rt, b'\n', next, out)
 }
@@ -131,13 +123,11 @@ fn put_words(rt: &impl Print, room: &[u32], at: usize, out: &mut [u8; OUT]) -> u
     ensures { result < line_bytes }
 {
     let mut next = at;
-    let mut i = 0;
-    while i < room.len() {
+    for (i, word) in room.iter().enumerate() {
         if 0 < i {
             next = put_byte(rt, b' ', next, out);
         }
-        next = put_number(rt, wide_word(room[i]), next, out);
-        i += 1;
+        next = put_number(rt, wide_word(*word), next, out);
     }
     put_byte(rt, b'\n', next, out)
 }
