@@ -20,8 +20,8 @@ use Rattle.meaning.specs.Problem.{word}
 use Rattle.aiger.specs.Circuits.{Sizes, sizes, check_circuit}
 use Rattle.aiger.specs.Texts.{largest_variable, ended, circuit_text, opening, lines_due, sizes_read, in_order, after_opening, circuit_read}
 use Rattle.aiger.specs.Accepted.{text_telling}
-use Rattle.aiger.specs.declared.Outcome.{Outcome}
-use Rattle.aiger.specs.declared.Outcome.TheVariants.{Done}
+use Rattle.std.specs.Prelude.{Result, Ok}
+use Rattle.aiger.specs.declared.NotDone.{NotDone}
 use Rattle.aiger.specs.Calls.{bad_text, room_after_reading}
 use Rattle.aiger.specs.Promise.{answer_of, ReadAs}
 use Rattle.aiger.proofs.CheckedCircuit.{GoodCircuit, good_if_granted, granted_if_good}
@@ -157,7 +157,7 @@ accepted_texts text ws p left = (forth, back)
         ap circuit_read is ∙ telling_read ws (good_if_granted ws accepted) chosen left ∙ ap (λ (n : ℕ). found ws n left) (sym place)
 
 -- At 0 the room holds the words that were found, and then what it held.
-held_at_0 : {text before after ws left : List ℕ} {r : Outcome} {n q : ℕ} → ReadAs text before r after → circuit_read text ≡ found ws q left
+held_at_0 : {text before after ws left : List ℕ} {r : Result ℕ NotDone} {n q : ℕ} → ReadAs text before r after → circuit_read text ≡ found ws q left
     → answer_of r ≡ granted n → after ≡ written ws before
 unfolding room_after_reading
 held_at_0 a e h = a.room_after ∙ rw (h, e)
@@ -169,8 +169,8 @@ AcceptedInto text before after n =
     × (length text ≤ longest_text) × (length ws ≤ length before) × (n ≡ length ws) × (after ≡ written ws before)
 
 -- Of the call: it answers 0 exactly for such texts, where they are not too long and the room has place for their words; it holds them, and then what it held.
-pub read_accepted : {text before after : List ℕ} {r : Outcome} → ReadAs text before r after → (n : ℕ)
-    → (r ≡ Done n)
+pub read_accepted : {text before after : List ℕ} {r : Result ℕ NotDone} → ReadAs text before r after → (n : ℕ)
+    → (r ≡ Ok n)
     ↔ ((ws : List ℕ) × (told : ℕ → Bool) × (left : List ℕ) × (check_circuit ws ≡ granted 0) × (text ≡ text_telling told ws ++ left)
     × (length text ≤ longest_text) × (length ws ≤ length before) × (n ≡ length ws) × (after ≡ written ws before))
 read_accepted {text} {before} {after} {r} a n = (λ e. by (circuit_read text) refl (ap answer_of e), back)
@@ -189,7 +189,7 @@ read_accepted {text} {before} {after} {r} a n = (λ e. by (circuit_read text) re
         go true f false k g = absurd (omega (arith, number_of g))
         go false f c k g = absurd (omega (arith, number_of g))
 
-    back : AcceptedInto text before after n → r ≡ Done n
+    back : AcceptedInto text before after n → r ≡ Ok n
     back (ws, chosen, left, accepted, is, short, roomy, count, room_is) =
         let found_is = (accepted_texts text ws (length (text_telling chosen ws)) left).1 (accepted, (chosen, is, refl)) in
         same_outcome (read_by a found_is ∙ rw (le-leb (length text) longest_text short, le-leb (length ws) (length before) roomy, count))

@@ -18,7 +18,7 @@ use Rattle.meaning.proofs.ItemByItem.{◌and◌, all_of_joined}
 use Rattle.meaning.proofs.Numbers.{all_of_each_below, all_of_below}
 use Rattle.meaning.proofs.Check.{passes_at}
 use Rattle.problem.specs.declared.Refusal.{Refusal}
-use Rattle.problem.specs.declared.parts.PartAnswer.TheVariants.{Passed, Refused}
+use Rattle.std.specs.Prelude.{Ok, Err, ⊤}
 use Rattle.problem.specs.Promise.{refusal_answer}
 use Rattle.problem.specs.CheckParts.{Answers}
 use Rattle.problem.proofs.Answered.{refused_first}
@@ -46,23 +46,22 @@ module _ (ws : List ℕ) where
       both_true (within 0 _ f.inputs_within)
       (both_true (within 1 _ f.latches_within) (both_true (within 2 _ f.gates_within) (both_true (within 3 _ f.outputs_within) refl)))
 
+  within_if_pass : (i most : ℕ) → (limit_check ws i 0 most).passes ≡ true → word ws i ≤ most
+  within_if_pass i most e = leb-true _ _ (second_true (leb 0 (word ws i)) (leb (word ws i) most) e)
+
   fitting_if_pass : all_of passing (limit_checks ws) ≡ true → Fitting (sizes ws)
   fitting_if_pass e = record {
-    inputs_within = is 0 _ (passes_at (limit_checks ws) 0 e (lit< tt));
-    latches_within = is 1 _ (passes_at (limit_checks ws) 1 e (lit< tt));
-    gates_within = is 2 _ (passes_at (limit_checks ws) 2 e (lit< tt));
-    outputs_within = is 3 _ (passes_at (limit_checks ws) 3 e (lit< tt));
+    inputs_within = within_if_pass 0 _ (passes_at (limit_checks ws) 0 e (lit< tt));
+    latches_within = within_if_pass 1 _ (passes_at (limit_checks ws) 1 e (lit< tt));
+    gates_within = within_if_pass 2 _ (passes_at (limit_checks ws) 2 e (lit< tt));
+    outputs_within = within_if_pass 3 _ (passes_at (limit_checks ws) 3 e (lit< tt));
   }
-    where
-      is : (i most : ℕ) → (limit_check ws i 0 most).passes ≡ true → word ws i ≤ most
-      is i most e = leb-true _ _ (second_true (leb 0 (word ws i)) (leb (word ws i) most) e)
 
-  -- The parts before the sizes are used.
-  pub fitting_if_passed : Answers (header_checks ws ∷ limit_checks ws ∷ []) Passed → Fitting (sizes ws)
-  fitting_if_passed a =
-      let opening = header_checks ws ∷ limit_checks ws ∷ [] in
-      let all = passes_if_handed_on (joined opening) (λ after. a.answered after ∙ first_failing_joined opening after) in
-      fitting_if_pass ((all_of_joined passing opening).0 all).1.0
+  -- A limit that passed.
+  pub within_if_passed : {A : Type 0} {x : A} (i most : ℕ) → Answers ((limit_check ws i 0 most ∷ []) ∷ []) (Ok x) → word ws i ≤ most
+  within_if_passed i most a =
+      let part = limit_check ws i 0 most ∷ [] in
+      within_if_pass i most (passes_at part 0 (passes_if_handed_on part (λ after. a.answered after)) (lit< tt))
 
 -- ════════ All checks ════════
 
@@ -151,7 +150,7 @@ module _ (ws : List ℕ) where
   unfolding check_circuit
   good_if_granted e = good_by_number 0 (granted 0) (λ n l h z. omega arith) (number_of e)
 
-  pub good_if_passed : Answers (circuit_parts ws) Passed → GoodCircuit ws
+  pub good_if_passed : {A : Type 0} {x : A} → Answers (circuit_parts ws) (Ok x) → GoodCircuit ws
   unfolding check_circuit
   good_if_passed a = good_if_granted (sym (a.answered (granted 0)))
 
@@ -169,5 +168,5 @@ module _ (ws : List ℕ) where
     pub more_if_good : GoodCircuit ws → first_failing_part (circuit_parts ws ++ more) after ≡ first_failing_part more after
     more_if_good g = parts_append (circuit_parts ws) more after ∙ handed_on (first_failing_part more after) g
 
-    pub refused_whatever : {f : Refusal} → Answers (circuit_parts ws) (Refused f) → first_failing_part (circuit_parts ws ++ more) after ≡ refusal_answer f
-    refused_whatever a = sym ((refused_first (circuit_parts ws) more a).answered after)
+    pub refused_whatever : {A : Type 0} {f : Refusal} → Answers {A = A} (circuit_parts ws) (Err f) → first_failing_part (circuit_parts ws ++ more) after ≡ refusal_answer f
+    refused_whatever a = sym ((refused_first {B = ⊤} (circuit_parts ws) more a).answered after)

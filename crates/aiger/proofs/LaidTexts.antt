@@ -10,18 +10,15 @@ use borrow.Author.Tests.{le-leb}
 use lib.Dec.{leb}
 use lib.ListN.{length, length-append, take-append-drop}
 use Rattle.answers.specs.Lists.{numbers, each}
-use Rattle.text.specs.Readings.{space_byte, newline_byte}
 use Rattle.text.specs.Promise.{largest_size, Puts}
 use Rattle.text.proofs.Buffers.{placed_append}
 use Rattle.meaning.proofs.Numbers.{numbers_suc, each_append}
-use Rattle.answers.specs.Limits.{inputs_limit, latches_limit, gates_limit, outputs_limit}
-use Rattle.meaning.specs.Problem.{word}
 use Rattle.aiger.specs.declared.sizes.Kind.{Kind}
 use Rattle.aiger.specs.declared.sizes.Kind.TheVariants.{Input, Latch, Output, Gate}
 use Rattle.aiger.specs.Circuits.{Sizes}
-use Rattle.aiger.specs.Texts.{ended, header_line, next_text, sized_text}
-use Rattle.aiger.specs.Reads.{Fitting, count_of, literal_of}
-use Rattle.aiger.specs.Writes.{place_of, line_of, Lays}
+use Rattle.aiger.specs.Texts.{ended, header_line, sized_text}
+use Rattle.aiger.specs.Reads.{count_of}
+use Rattle.aiger.specs.Writes.{line_of, Lays}
 
 -- ════════ One text ════════
 
@@ -44,7 +41,6 @@ pub record Laid (text : List ℕ) (at : ℕ) (old : List ℕ) (next : ℕ) (new 
   pub lays : Lays text at old next new
 
 pub nothing_laid : {at : ℕ} {o : List ℕ} → at < 2 ^ 64 → length o < 2 ^ 64 → Laid [] at o at o
-unfolding largest_size
 nothing_laid {at} {o} h l =
     record {
       small = omega arith;
@@ -85,39 +81,6 @@ module _ (f : ℕ → List ℕ) where
   pub laid_one_more : (i : ℕ) {at n m : ℕ} {o p q : List ℕ} → Laid (each (numbers 0 i) f) at o n p → length q ≡ length p → Lays (f i) n p m q
       → Laid (each (numbers 0 (i + 1)) f) at o m q
   laid_one_more i before same next = rw (each_more i) (laid_then before same next)
-
-  pub laid_all : {i k at n : ℕ} {o p : List ℕ} → i ≡ k → Laid (each (numbers 0 i) f) at o n p → Lays (each (numbers 0 k) f) at o n p
-  laid_all e a = rw e at a.lays
-
--- ════════ A line of each kind ════════
-
--- The numbers that a line is made of, each under its name in the code.
-pub record LineOf (kind : Kind) (s : Sizes) (ws : List ℕ) (i own first second : ℕ) : Type 0 where
-  pub own_is : own ≡ literal_of kind s i
-  pub first_is : first ≡ word ws (place_of kind s i)
-  pub second_is : second ≡ word ws (place_of kind s i + 1)
-
-module _ {kind : Kind} {s : Sizes} {ws : List ℕ} {i own first second : ℕ} (l : LineOf kind s ws i own first second) {at n : ℕ} {o p : List ℕ} where
-  pub input_laid : kind ≡ Input → Puts (ended own newline_byte) at o n p → Lays (line_of kind s ws i) at o n p
-  input_laid e a = let l' : LineOf Input s ws i own first second = rw e at l in rw e (rw l'.own_is at (lays_if_put a))
-
-  pub latch_laid : kind ≡ Latch → Lays (ended own space_byte ++ next_text own first second) at o n p → Lays (line_of kind s ws i) at o n p
-  latch_laid e a = let l' : LineOf Latch s ws i own first second = rw e at l in rw e (rw (l'.own_is, l'.first_is, l'.second_is) at a)
-
-  pub output_laid : kind ≡ Output → Puts (ended first newline_byte) at o n p → Lays (line_of kind s ws i) at o n p
-  output_laid e a = let l' : LineOf Output s ws i own first second = rw e at l in rw e (rw l'.first_is at (lays_if_put a))
-
-  pub gate_laid : kind ≡ Gate → Lays (ended own space_byte ++ ended first space_byte ++ ended second newline_byte) at o n p
-      → Lays (line_of kind s ws i) at o n p
-  gate_laid e a = let l' : LineOf Gate s ws i own first second = rw e at l in rw e (rw (l'.own_is, l'.first_is, l'.second_is) at a)
-
--- The place of its words is far below the largest number.
-pub place_small : (kind : Kind) (s : Sizes) (i : ℕ) → Fitting s → i < count_of kind s → place_of kind s i < 2 ^ 32
-unfolding inputs_limit latches_limit gates_limit outputs_limit
-place_small Input s i f l = omega arith
-place_small Latch s i f l = omega (arith, f.latches_within)
-place_small Output s i f l = omega (arith, f.latches_within, f.gates_within, f.outputs_within)
-place_small Gate s i f l = omega (arith, f.latches_within, f.gates_within)
 
 -- ════════ The whole text ════════
 

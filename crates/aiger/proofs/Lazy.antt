@@ -16,8 +16,9 @@ use Rattle.text.specs.Readings.{found, fault}
 use Rattle.problem.specs.declared.Refusal.TheVariants.{BadVersion, BadNode}
 use Rattle.problem.specs.Promise.{refusal_answer}
 use Rattle.problem.proofs.Unique.{refusal_not_yes}
-use Rattle.aiger.specs.declared.Outcome.{Outcome}
-use Rattle.aiger.specs.declared.Outcome.TheVariants.{Done, BadText, Circuit, RoomTooSmall}
+use Rattle.std.specs.Prelude.{Result, Ok, Err}
+use Rattle.aiger.specs.declared.NotDone.{NotDone}
+use Rattle.aiger.specs.declared.NotDone.TheVariants.{BadText, Circuit, RoomTooSmall}
 use Rattle.aiger.specs.Circuits.{circuit_parts}
 use Rattle.aiger.specs.Texts.{circuit_text, circuit_read}
 use Rattle.aiger.specs.Calls.{room_check, read_answer, room_after_reading, write_answer, room_after_writing}
@@ -30,11 +31,11 @@ use Rattle.aiger.proofs.Unread.{read_without_rest}
 
 -- A call: what it promises of its outcome and of the room after it, of which each is the only one.
 pub record Call : Type 1 where
-  pub Meets : Outcome → List ℕ → Type 0
-  pub decides : (r r' : Outcome) (after after' : List ℕ) → Meets r after → Meets r' after' → (r ≡ r') × (after ≡ after')
+  pub Meets : Result ℕ NotDone → List ℕ → Type 0
+  pub decides : (r r' : Result ℕ NotDone) (after after' : List ℕ) → Meets r after → Meets r' after' → (r ≡ r') × (after ≡ after')
 
 -- This outcome, with this room after it, does not meet the promise.
-abbrev pub Breaks : Call → Outcome → List ℕ → Type 0
+abbrev pub Breaks : Call → Result ℕ NotDone → List ℕ → Type 0
 Breaks x r after = ¬ (x.Meets r after)
 
 -- A text, or words, and the room before the call.
@@ -44,7 +45,7 @@ reading text room = record { Meets = ReadAs text room; decides = λ r r' after a
 abbrev pub writing : List ℕ → List ℕ → Call
 writing ws room = record { Meets = WrittenAs ws room; decides = λ r r' after after'. written_unique }
 
-module _ (x : Call) {r : Outcome} {right : List ℕ} (m : x.Meets r right) {s : Outcome} {after : List ℕ} where
+module _ (x : Call) {r : Result ℕ NotDone} {right : List ℕ} (m : x.Meets r right) {s : Result ℕ NotDone} {after : List ℕ} where
   pub other_outcome : ¬ (s ≡ r) → Breaks x s after
   other_outcome h j = h (x.decides s r after right j m).0
 
@@ -63,44 +64,44 @@ module _ (x : Call) {r : Outcome} {right : List ℕ} (m : x.Meets r right) {s : 
 
 -- ════════ Reading, for all texts ════════
 
-module _ (text room : List ℕ) (r : Outcome) (after : List ℕ) where
+module _ (text room : List ℕ) (r : Result ℕ NotDone) (after : List ℕ) where
   -- Anything but 19 with the place of the fault.
-  pub fault_passed_breaks : {p : ℕ} → circuit_read text ≡ fault p → ¬ (r ≡ BadText p) → Breaks (reading text room) r after
+  pub fault_passed_breaks : {p : ℕ} → circuit_read text ≡ fault p → ¬ (r ≡ Err (BadText p)) → Breaks (reading text room) r after
   unfolding read_answer
   fault_passed_breaks {p} e h j = h (same_outcome (j.answered ∙ (rw e)))
 
   module _ {ws left : List ℕ} {p : ℕ} (e : circuit_read text ≡ found ws p left) (short : length text ≤ longest_text) where
     -- Anything but 0 with the words, although they fit: 19 for what is no fault, or 27.
-    pub good_refused_breaks : length ws ≤ length room → ¬ (r ≡ Done (length ws)) → Breaks (reading text room) r after
+    pub good_refused_breaks : length ws ≤ length room → ¬ (r ≡ Ok (length ws)) → Breaks (reading text room) r after
     unfolding read_answer
     good_refused_breaks fits h j =
         h (same_outcome (j.answered ∙ (rw (e, le-leb (length text) longest_text short, le-leb (length ws) (length room) fits))))
 
     -- Anything but 27 with the words needed, although they do not fit.
-    pub small_room_passed_breaks : length room < length ws → ¬ (r ≡ RoomTooSmall (length ws)) → Breaks (reading text room) r after
+    pub small_room_passed_breaks : length room < length ws → ¬ (r ≡ Err (RoomTooSmall (length ws))) → Breaks (reading text room) r after
     unfolding read_answer
     small_room_passed_breaks small h j =
         h (same_outcome (j.answered ∙ (rw (e, le-leb (length text) longest_text short, lt-leb (length ws) (length room) small))))
 
     -- What stands after the last line is looked at: the answer goes by it.
     pub rest_looked_at_breaks : ReadAs text room r after → (rest : List ℕ) → length (take p text ++ rest) ≤ longest_text
-        → (s : Outcome) → ¬ (s ≡ r) → (other : List ℕ) → Breaks (reading (take p text ++ rest) room) s other
+        → (s : Result ℕ NotDone) → ¬ (s ≡ r) → (other : List ℕ) → Breaks (reading (take p text ++ rest) room) s other
     rest_looked_at_breaks m rest shorter s h other j =
         let same = (read_without_rest text ws p left e rest (length room) short shorter).0 in
         h (same_outcome (j.answered ∙ same ∙ sym m.answered))
 
   module _ {ws left : List ℕ} {p : ℕ} (e : circuit_read text ≡ found ws p left) (long : longest_text < length text) where
     -- The one outcome where the lines are good and the text is too long, whatever the room.
-    pub long_text_refused : ReadAs text room r after → r ≡ BadText longest_text
+    pub long_text_refused : ReadAs text room r after → r ≡ Err (BadText longest_text)
     unfolding read_answer
     long_text_refused j = same_outcome (j.answered ∙ (rw (e, lt-leb (length text) longest_text long)))
 
     -- Anything else: 0 with the words, 27, or 19 with another place.
-    pub long_text_passed_breaks : ¬ (r ≡ BadText longest_text) → Breaks (reading text room) r after
+    pub long_text_passed_breaks : ¬ (r ≡ Err (BadText longest_text)) → Breaks (reading text room) r after
     long_text_passed_breaks h j = h (long_text_refused j)
 
   -- At 0 anything but the words and then what the room held.
-  pub other_words_breaks : {ws left : List ℕ} {p n : ℕ} → circuit_read text ≡ found ws p left → r ≡ Done n → ¬ (after ≡ written ws room)
+  pub other_words_breaks : {ws left : List ℕ} {p n : ℕ} → circuit_read text ≡ found ws p left → r ≡ Ok n → ¬ (after ≡ written ws room)
       → Breaks (reading text room) r after
   unfolding room_after_reading
   other_words_breaks {ws} {left} {p} {n} e d h j = h (rw (d, e) at j.room_after)
@@ -108,7 +109,7 @@ module _ (text room : List ℕ) (r : Outcome) (after : List ℕ) where
 -- ════════ Writing, for all words ════════
 
 -- At 0 anything but the text and then what the room held.
-pub other_text_breaks : (ws room after : List ℕ) (n : ℕ) → ¬ (after ≡ written (circuit_text ws) room) → Breaks (writing ws room) (Done n) after
+pub other_text_breaks : (ws room after : List ℕ) (n : ℕ) → ¬ (after ≡ written (circuit_text ws) room) → Breaks (writing ws room) (Ok n) after
 unfolding room_after_writing
 other_text_breaks ws room after n h j = h j.room_after
 
@@ -133,26 +134,26 @@ module _ (ws : List ℕ) (room : ℕ) where
 
 -- 15, or 5: a circuit has neither a version nor nodes.
 module _ (ws room after : List ℕ) where
-  pub version_refused_breaks : Breaks (writing ws room) (Circuit BadVersion) after
+  pub version_refused_breaks : Breaks (writing ws room) (Err (Circuit BadVersion)) after
   version_refused_breaks j = no_other_number ws (length room) 15 (omega arith) (λ e. omega arith) (sym (number_of j.answered))
 
-  pub node_refused_breaks : (i : ℕ) → Breaks (writing ws room) (Circuit (BadNode i)) after
+  pub node_refused_breaks : (i : ℕ) → Breaks (writing ws room) (Err (Circuit (BadNode i))) after
   node_refused_breaks i j = no_other_number ws (length room) 5 (omega arith) (λ e. omega arith) (sym (number_of j.answered))
 
 -- ════════ The room at a refusal ════════
 
 -- It is changed.
 module _ (given room after : List ℕ) (changed : ¬ (after ≡ room)) where
-  pub changed_by_reading_breaks : (r : Outcome) → ((n : ℕ) → ¬ (r ≡ Done n)) → Breaks (reading given room) r after
+  pub changed_by_reading_breaks : (r : Result ℕ NotDone) → ((n : ℕ) → ¬ (r ≡ Ok n)) → Breaks (reading given room) r after
   unfolding room_after_reading
-  changed_by_reading_breaks (Done n) h j = h n refl
-  changed_by_reading_breaks (BadText p) h j = changed j.room_after
-  changed_by_reading_breaks (Circuit f) h j = changed (j.room_after ∙ rw (ne_eqb (refusal_answer f).number 0 (refusal_not_yes f)))
-  changed_by_reading_breaks (RoomTooSmall n) h j = changed j.room_after
+  changed_by_reading_breaks (Ok n) h j = h n refl
+  changed_by_reading_breaks (Err (BadText p)) h j = changed j.room_after
+  changed_by_reading_breaks (Err (Circuit f)) h j = changed (j.room_after ∙ rw (ne_eqb (refusal_answer f).number 0 (refusal_not_yes f)))
+  changed_by_reading_breaks (Err (RoomTooSmall n)) h j = changed j.room_after
 
-  pub changed_by_writing_breaks : (r : Outcome) → ((n : ℕ) → ¬ (r ≡ Done n)) → Breaks (writing given room) r after
+  pub changed_by_writing_breaks : (r : Result ℕ NotDone) → ((n : ℕ) → ¬ (r ≡ Ok n)) → Breaks (writing given room) r after
   unfolding room_after_writing
-  changed_by_writing_breaks (Done n) h j = h n refl
-  changed_by_writing_breaks (BadText p) h j = changed j.room_after
-  changed_by_writing_breaks (Circuit f) h j = changed (j.room_after ∙ rw (ne_eqb (refusal_answer f).number 0 (refusal_not_yes f)))
-  changed_by_writing_breaks (RoomTooSmall n) h j = changed j.room_after
+  changed_by_writing_breaks (Ok n) h j = h n refl
+  changed_by_writing_breaks (Err (BadText p)) h j = changed j.room_after
+  changed_by_writing_breaks (Err (Circuit f)) h j = changed (j.room_after ∙ rw (ne_eqb (refusal_answer f).number 0 (refusal_not_yes f)))
+  changed_by_writing_breaks (Err (RoomTooSmall n)) h j = changed j.room_after

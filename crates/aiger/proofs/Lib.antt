@@ -1,5 +1,4 @@
 -- The plain mathematics of the crate's proofs.
-pub mod KindNumbers
 pub mod CheckedCircuit
 pub mod DueLaws
 pub mod LinesLaws

@@ -7,30 +7,23 @@ use native.Mathlib.Omega.{arith}
 use borrow.Author.Tests.{le-leb, lt-leb, eq-eqb, ne_eqb}
 use lib.Dec.{leb, eqb}
 use lib.ListN.{length, take, drop, length-take, take-append-drop}
-use lib.Seq.{take-append_seam, get_or-take}
+use lib.Seq.{length-take-le, take-append_seam, get_or-take}
 use Rattle.answers.specs.Lists.{written}
 use Rattle.answers.specs.Limits.{longest_text, inputs_limit, latches_limit, outputs_limit, gates_limit}
 use Rattle.text.specs.Readings.{found, fault, and_then, in_turn}
 use Rattle.text.proofs.ReadingLaws.{ahead_none}
 use Rattle.meaning.specs.Problem.{word}
-use Rattle.aiger.specs.Circuits.{Sizes}
+use Rattle.aiger.specs.Circuits.{Sizes, words_in_all}
 use Rattle.aiger.specs.Texts.{opening, lines_due, sizes_read, largest_variable, variable_place, in_order, ordered, after_opening, circuit_read}
 use Rattle.aiger.specs.Calls.{read_answer, room_after_reading}
 use Rattle.aiger.specs.Promise.{ReadAs}
-use Rattle.aiger.specs.Reads.{Fitting, reached, FoundWords, numbers_kept, Judged}
-use Rattle.aiger.specs.declared.Outcome.TheVariants.{Done, BadText, RoomTooSmall}
+use Rattle.aiger.specs.Reads.{Fitting, reached, FoundWords, numbers_kept}
+use Rattle.aiger.specs.declared.NotDone.TheVariants.{BadText, RoomTooSmall}
 use Rattle.aiger.specs.declared.due.Reached.{Reached}
-use Rattle.aiger.specs.declared.read.Judgement.{Judgement}
-use Rattle.aiger.proofs.KeptNumbers.{Opened, opening_kept, lines_kept}
-
--- ════════ How far a text was read ════════
-
-pub reached_good : (text : List ℕ) (r : Reached) (table : List ℕ) → r.good ≡ true
-    → reached text r table ≡ found (take r.filled table) r.place (drop r.place text)
-reached_good text r table e = rw e
-
-pub reached_fault : (text : List ℕ) (r : Reached) (table : List ℕ) → r.good ≡ false → reached text r table ≡ fault r.place
-reached_fault text r table e = rw e
+use Rattle.std.specs.Prelude.{Result, Ok, Err, MatchResult}
+use Rattle.std.specs.Result.{IsErrAnd}
+use Rattle.aiger.specs.declared.NotDone.{NotDone}
+use Rattle.aiger.proofs.KeptNumbers.{Opened, opening_kept, lines_kept, in_order_length}
 
 -- ════════ What a text reads as ════════
 
@@ -86,10 +79,9 @@ pub record HeaderRead (text table : List ℕ) (place : ℕ) : Type 0 where
   pub after_header : word table 0 ≡ largest_variable (sizes_read table)
       → circuit_read text ≡ ordered (sizes_read table) (in_turn (lines_due (sizes_read table)) place (drop place text))
 
-pub header_read : (text table : List ℕ) (r : Reached) → reached text r table ≡ in_turn opening 0 text → r.good ≡ true
-    → HeaderRead text table r.place
-header_read text table r e good =
-    let is = sym e ∙ reached_good text r table good in
+pub header_read : (text table : List ℕ) (r : Reached) → reached text (Ok r) table ≡ in_turn opening 0 text → HeaderRead text table r.place
+header_read text table r e =
+    let is = sym e in
     let o = opening_kept 0 text is in
     let first = word_kept table r.filled o 0 (omega arith) in
     let sizes = sizes_kept table r.filled o in
@@ -103,25 +95,45 @@ header_read text table r e good =
 
 -- ════════ The lines in the table ════════
 
-module _ (text : List ℕ) (s : Sizes) (p : ℕ) (t table : List ℕ) (r : Reached) (e : reached text r table ≡ and_then (found [] p t) (in_turn (lines_due s)))
-  where
-    lines_read : in_turn (lines_due s) p t ≡ reached text r table
-    lines_read = sym (e ∙ ahead_none (in_turn (lines_due s) p t))
+module _ (text : List ℕ) (s : Sizes) (p : ℕ) (t table : List ℕ) where
+  lines_read : (r : Result Reached ℕ) → reached text r table ≡ and_then (found [] p t) (in_turn (lines_due s)) → in_turn (lines_due s) p t ≡ reached text r table
+  lines_read r e = sym (e ∙ ahead_none (in_turn (lines_due s) p t))
 
-    pub lines_fault : r.good ≡ false → ordered s (in_turn (lines_due s) p t) ≡ fault r.place
-    lines_fault bad = ap (ordered s) (lines_read ∙ reached_fault text r table bad)
+  pub lines_fault : {q : ℕ} → reached text (Err q) table ≡ and_then (found [] p t) (in_turn (lines_due s)) → ordered s (in_turn (lines_due s) p t) ≡ fault q
+  lines_fault {q} e = ap (ordered s) (lines_read (Err q) e)
 
-    -- The table's first words are the numbers kept.
-    pub lines_found : r.good ≡ true
-        → ordered s (in_turn (lines_due s) p t) ≡ found (in_order s (take (numbers_kept s) table)) r.place (drop r.place text)
-    lines_found good =
-        let is = lines_read ∙ reached_good text r table good in
-        let kept = take_by_length r.filled (numbers_kept s) table (lines_kept s p t is) in
-        ap (ordered s) is ∙ ap (λ (ns : List ℕ). found (in_order s ns) r.place (drop r.place text)) kept
+  -- The table's first words are the numbers kept.
+  pub lines_found : (r : Reached) → reached text (Ok r) table ≡ and_then (found [] p t) (in_turn (lines_due s))
+      → ordered s (in_turn (lines_due s) p t) ≡ found (in_order s (take (numbers_kept s) table)) r.place (drop r.place text)
+  lines_found r e =
+      let is = lines_read (Ok r) e in
+      let kept = take_by_length r.filled (numbers_kept s) table (lines_kept s p t is) in
+      ap (ordered s) is ∙ ap (λ (ns : List ℕ). found (in_order s ns) r.place (drop r.place text)) kept
 
--- A judgement under another name.
-pub judged_by : {text : List ℕ} {r r' : Judgement} {table : List ℕ} → r ≡ r' → Judged text r table → Judged text r' table
-judged_by e j = rw e at j
+-- ════════ The judgement, where its fault becomes a refusal ════════
+
+abbrev pub Judged : List ℕ → List ℕ → Result Sizes ℕ → Type 0
+Judged text table r =
+    MatchResult r (λ s. (numbers_kept s ≤ length table) × FoundWords (circuit_read text) (in_order s (take (numbers_kept s) table)))
+    (λ p. circuit_read text ≡ fault p)
+
+-- What `map_err` made of it.
+abbrev pub Turned : Result Sizes ℕ → Result Sizes NotDone → Type 0
+Turned r q = MatchResult r (λ s. q ≡ Ok s) (λ p. IsErrAnd q (λ f. f ≡ BadText p))
+
+module _ (text table : List ℕ) where
+  pub judged_good : (r : Result Sizes ℕ) {s : Sizes} → Judged text table r → Turned r (Ok s)
+      → (numbers_kept s ≤ length table) × FoundWords (circuit_read text) (in_order s (take (numbers_kept s) table))
+  judged_good (Ok s) {s = s'} j t = let e : s' ≡ s = cc in rw e j
+  judged_good (Err p) j t = absurd t
+
+  pub judged_wrong : (r : Result Sizes ℕ) {f : NotDone} → Judged text table r → Turned r (Err f) → (p : ℕ) × (circuit_read text ≡ fault p) × (f ≡ BadText p)
+  judged_wrong (Ok s) j t = absurd cc
+  judged_wrong (Err p) j t = (p, j, t)
+
+-- How many words it is.
+pub words_counted : (s : Sizes) (table : List ℕ) → numbers_kept s ≤ length table → words_in_all s ≡ length (in_order s (take (numbers_kept s) table))
+words_counted s table h = sym (in_order_length s (take (numbers_kept s) table) (length-take-le (numbers_kept s) table h))
 
 -- ════════ The table's length ════════
 
@@ -143,12 +155,12 @@ module _ (s : Sizes) (n : ℕ) (f : Fitting s) (h : Table n) where
 -- ════════ The answer and the room ════════
 
 module _ (text room : List ℕ) where
-  pub answer_fault : {p : ℕ} → circuit_read text ≡ fault p → ReadAs text room (BadText p) room
+  pub answer_fault : {p : ℕ} → circuit_read text ≡ fault p → ReadAs text room (Err (BadText p)) room
   unfolding read_answer room_after_reading
   answer_fault e = record { answered = rw e; room_after = refl }
 
   module _ {ws : List ℕ} (w : FoundWords (circuit_read text) ws) where
-    pub answer_long : longest_text < length text → ReadAs text room (BadText longest_text) room
+    pub answer_long : longest_text < length text → ReadAs text room (Err (BadText longest_text)) room
     unfolding read_answer room_after_reading
     answer_long h =
         let long : leb (length text) longest_text ≡ false = lt-leb _ _ h in
@@ -158,13 +170,13 @@ module _ (text room : List ℕ) where
       short : leb (length text) longest_text ≡ true
       short = le-leb _ _ fits
 
-      pub answer_room : {n : ℕ} → n ≡ length ws → length room < n → ReadAs text room (RoomTooSmall n) room
+      pub answer_room : {n : ℕ} → n ≡ length ws → length room < n → ReadAs text room (Err (RoomTooSmall n)) room
       unfolding read_answer room_after_reading
       answer_room {n} e h =
           let small : leb (length ws) (length room) ≡ false = lt-leb (length ws) (length room) (omega arith) in
           record { answered = rw (w.found_is, short, small, e); room_after = refl }
 
-      pub answer_done : {n : ℕ} {after : List ℕ} → n ≡ length ws → n ≤ length room → after ≡ written ws room → ReadAs text room (Done n) after
+      pub answer_done : {n : ℕ} {after : List ℕ} → n ≡ length ws → n ≤ length room → after ≡ written ws room → ReadAs text room (Ok n) after
       unfolding read_answer room_after_reading
       answer_done {n} {after} e h a =
           let large : leb (length ws) (length room) ≡ true = le-leb (length ws) (length room) (omega arith) in

@@ -15,7 +15,8 @@ use Rattle.answers.proofs.Answers.{number_of, parts_append}
 use Rattle.answers.specs.Limits.{longest_text}
 use Rattle.text.specs.Readings.{Reading, found, fault}
 use Rattle.aiger.specs.Calls.{bad_text, room_check, answer_to, words_found, read_answer, room_after_reading, write_answer, room_after_writing}
-use Rattle.aiger.specs.declared.Outcome.{Outcome}
+use Rattle.std.specs.Prelude.{Result}
+use Rattle.aiger.specs.declared.NotDone.{NotDone}
 use Rattle.aiger.specs.Circuits.{circuit_parts, check_circuit}
 use Rattle.aiger.specs.Texts.{circuit_text, circuit_read}
 use Rattle.aiger.specs.Promise.{answer_of, ReadAs, WrittenAs}
@@ -84,7 +85,7 @@ written_at_0 ws room e =
     go true z = refl
     go false z = absurd (omega arith)
 
-module _ {ws out out' : List ℕ} {r : Outcome} (w : WrittenAs ws out r out') (at_0 : (answer_of r).number ≡ 0) where
+module _ {ws out out' : List ℕ} {r : Result ℕ NotDone} (w : WrittenAs ws out r out') (at_0 : (answer_of r).number ≡ 0) where
   answer_is : answer_of r ≡ granted (needed ws)
   answer_is = w.answered ∙ written_at_0 ws (length out) (number_of (sym w.answered) ∙ at_0)
 
@@ -96,7 +97,7 @@ module _ {ws out out' : List ℕ} {r : Outcome} (w : WrittenAs ws out r out') (a
       rw (place, held) (take_at (circuit_text ws) (drop (needed ws) out) (needed ws) refl)
 
   -- What was written, read into a room that has the words, gives them.
-  pub call_written_read : {room room' : List ℕ} {q : Outcome} → ReadAs (take (answer_of r).place out') room q room' → length ws ≤ length room
+  pub call_written_read : {room room' : List ℕ} {q : Result ℕ NotDone} → ReadAs (take (answer_of r).place out') room q room' → length ws ≤ length room
       → (answer_of q ≡ granted (length ws)) × (room' ≡ written ws room)
   unfolding read_answer room_after_reading
   call_written_read {room} {room'} {q} p fits =
@@ -111,11 +112,11 @@ module _ {ws out out' : List ℕ} {r : Outcome} (w : WrittenAs ws out r out') (a
       (answered, held)
 
 -- A text that was read without fault: the room holds its words, and the place is their number.
-record WordsRead (text room room' : List ℕ) (q : Outcome) : Type 0 where
+record WordsRead (text room room' : List ℕ) (q : Result ℕ NotDone) : Type 0 where
   pub good : GoodCircuit (words_found (circuit_read text))
   pub words_held : take (answer_of q).place room' ≡ words_found (circuit_read text)
 
-module _ {text room room' : List ℕ} {q : Outcome} (p : ReadAs text room q room') (at_0 : (answer_of q).number ≡ 0) where
+module _ {text room room' : List ℕ} {q : Result ℕ NotDone} (p : ReadAs text room q room') (at_0 : (answer_of q).number ≡ 0) where
   read_at_0 : (r : Reading) → circuit_read text ≡ r → answer_of q ≡ answer_to text (length room) r → room' ≡ written (words_found r) room
       → WordsRead text room room' q
   read_at_0 (fault f) e a h = absurd (omega (arith, at_0, number_of a))
@@ -137,7 +138,7 @@ module _ {text room room' : List ℕ} {q : Outcome} (p : ReadAs text room q room
   was_read = read_at_0 (circuit_read text) refl p.answered (p.room_after ∙ rw at_0)
 
   -- What was read is never refused by 1 to 4: the writer answers 0, or 27 where the room is too small.
-  pub call_read_answered : {out out' : List ℕ} {r : Outcome} → WrittenAs (take (answer_of q).place room') out r out'
+  pub call_read_answered : {out out' : List ℕ} {r : Result ℕ NotDone} → WrittenAs (take (answer_of q).place room') out r out'
       → answer_of r ≡ after_check (words_found (circuit_read text)) (length out)
   call_read_answered {out} {out'} {r} w =
       let ws = words_found (circuit_read text) in
@@ -145,7 +146,7 @@ module _ {text room room' : List ℕ} {q : Outcome} (p : ReadAs text room q room
       by_words.answered ∙ good_written ws (length out) was_read.good
 
   -- What was read, written into a room that has the bytes, gives the text of those words.
-  pub call_read_written : {out out' : List ℕ} {r : Outcome} → WrittenAs (take (answer_of q).place room') out r out'
+  pub call_read_written : {out out' : List ℕ} {r : Result ℕ NotDone} → WrittenAs (take (answer_of q).place room') out r out'
       → needed (words_found (circuit_read text)) ≤ length out
       → (answer_of r ≡ granted (needed (words_found (circuit_read text)))) × (out' ≡ written (circuit_text (words_found (circuit_read text))) out)
   unfolding room_after_writing
@@ -161,7 +162,7 @@ module _ {text room room' : List ℕ} {q : Outcome} (p : ReadAs text room q room
 
 -- "symbol lines and comments, that is all after the last line the header counts, are skipped unread": of the call, the same outcome and the same room after it.
 module _ (text ws : List ℕ) (p : ℕ) (left : List ℕ) (e : circuit_read text ≡ found ws p left) where
-  pub call_unread : (rest room after : List ℕ) (r : Outcome) → length text ≤ longest_text → length (take p text ++ rest) ≤ longest_text
+  pub call_unread : (rest room after : List ℕ) (r : Result ℕ NotDone) → length text ≤ longest_text → length (take p text ++ rest) ≤ longest_text
       → ReadAs text room r after → ReadAs (take p text ++ rest) room r after
   unfolding room_after_reading
   call_unread rest room after r short shorter m =

@@ -11,16 +11,15 @@ use Rattle.answers.specs.Answers.{Check, granted, Answer, first_failing_part, ou
 use Rattle.answers.specs.Limits.{longest_text}
 use Rattle.text.specs.Promise.{largest_size}
 use Rattle.problem.specs.declared.Refusal.{Refusal}
-use Rattle.problem.specs.declared.parts.PartAnswer.TheVariants.{Refused}
+use Rattle.std.specs.Prelude.{Ok, Err}
 use Rattle.problem.specs.Promise.{refusal_answer}
 use Rattle.problem.specs.CheckParts.{Answers}
 use Rattle.problem.proofs.Unique.{refusal_not_yes}
-use Rattle.aiger.specs.declared.Outcome.TheVariants.{Done, Circuit, RoomTooSmall}
+use Rattle.aiger.specs.declared.NotDone.TheVariants.{Circuit, RoomTooSmall}
 use Rattle.aiger.specs.Circuits.{Sizes, sizes, circuit_parts}
 use Rattle.aiger.specs.Texts.{sized_text, circuit_text}
 use Rattle.aiger.specs.Calls.{room_check, write_answer, room_after_writing}
 use Rattle.aiger.specs.Promise.{answer_of, WrittenAs}
-use Rattle.aiger.specs.Reads.{Fitting}
 use Rattle.aiger.specs.Writes.{Lays}
 use Rattle.aiger.proofs.CheckedCircuit.{GoodCircuit, more_if_good, refused_whatever, good_by_number}
 use Rattle.aiger.proofs.TextLengths.{text_within}
@@ -32,8 +31,8 @@ room_part ws room = (room_check (length (circuit_text ws)) (length room) ∷ [])
 
 -- ════════ A refusal by the check ════════
 
-module _ (ws room : List ℕ) {f : Refusal} (a : Answers (circuit_parts ws) (Refused f)) where
-  pub refused : WrittenAs ws room (Circuit f) room
+module _ (ws room : List ℕ) {A : Type 0} {f : Refusal} (a : Answers {A = A} (circuit_parts ws) (Err f)) where
+  pub refused : WrittenAs ws room (Err (Circuit f)) room
   unfolding write_answer room_after_writing
   refused =
       let no : eqb (refusal_answer f).number 0 ≡ false = ne_eqb _ 0 (refusal_not_yes f) in
@@ -44,38 +43,35 @@ module _ (ws room : List ℕ) {f : Refusal} (a : Answers (circuit_parts ws) (Ref
 
 -- ════════ Words that are good ════════
 
-pub fitting_as : {s t : Sizes} → s ≡ t → Fitting t → Fitting s
-fitting_as e f = rw e f
-
 module _ {ws : List ℕ} (good : GoodCircuit ws) {s : Sizes} (e : s ≡ sizes ws) where
   as_circuit : {o p : List ℕ} {n : ℕ} → Lays (sized_text s ws) 0 o n p → Lays (circuit_text ws) 0 o n p
   unfolding circuit_text
   as_circuit a = rw e at a
 
   length_told : {o p : List ℕ} {n : ℕ} → Lays (sized_text s ws) 0 o n p → n ≡ length (circuit_text ws)
-  unfolding largest_size longest_text
+  unfolding longest_text
   length_told a = omega (arith, (as_circuit a).after, text_within ws good)
 
   module _ (room : List ℕ) {n : ℕ} {o p : List ℕ} (measured : Lays (sized_text s ws) 0 o n p) where
-    pub short : length room < n → WrittenAs ws room (RoomTooSmall n) room
+    pub short : length room < n → WrittenAs ws room (Err (RoomTooSmall n)) room
     unfolding write_answer room_after_writing
     short h =
         let long : leb (length (circuit_text ws)) (length room) ≡ false = lt-leb (length (circuit_text ws)) (length room) (omega (arith, length_told measured)) in
         record {
           answered =
-              ap (λ k. answer_of (RoomTooSmall k)) (length_told measured)
+              ap (λ k. answer_of (Err (RoomTooSmall k))) (length_told measured)
               ∙ sym (more_if_good ws (room_part ws room) (granted (length (circuit_text ws))) good ∙ rw long);
           room_after = refl;
         }
 
-    pub done : n ≤ length room → {m : ℕ} {after : List ℕ} → Lays (sized_text s ws) 0 room m after → WrittenAs ws room (Done n) after
+    pub done : n ≤ length room → {m : ℕ} {after : List ℕ} → Lays (sized_text s ws) 0 room m after → WrittenAs ws room (Ok n) after
     unfolding write_answer room_after_writing
     done h a =
         let told = length_told measured in
         let fits : leb (length (circuit_text ws)) (length room) ≡ true = le-leb (length (circuit_text ws)) (length room) (omega arith) in
         record {
           answered =
-              ap (λ k. answer_of (Done k)) told
+              ap (λ k. answer_of (Ok k)) told
               ∙ sym (more_if_good ws (room_part ws room) (granted (length (circuit_text ws))) good ∙ rw fits);
           room_after = (as_circuit a).held (omega arith);
         }

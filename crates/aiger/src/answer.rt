@@ -1,28 +1,29 @@
-// The number and place of each answer.
+// The number and place of each refusal.
+ghost use Rattle.answers.specs.Table.{row_of};
 ghost use Rattle.std.specs.Prelude.{◌≡◌};
-ghost use Rattle.aiger.specs.Promise.{answer_of};
+ghost use Rattle.aiger.specs.Promise.{answer_of, not_done_answer};
 
-use crate::Outcome;
-use problem::answer::{refusal_number, refusal_place};
+use crate::NotDone;
+use answers::answer::Answer;
 
-pub fn number(a: Outcome) -> u32
-    ensures { result ≡ (answer_of a).number }
-{
-    match a {
-        Outcome::Done(_) => 0,
-        Outcome::BadText(_) => 19,
-        Outcome::Circuit(f) => refusal_number(f),
-        Outcome::RoomTooSmall(_) => 27,
+impl From<NotDone> for Answer {
+    ghost from_gives = { λ f a. row_of a ≡ not_done_answer f };
+
+    fn from(f: NotDone) -> Answer {
+        match f {
+            NotDone::BadText(p) => Answer::new(19, p),
+            NotDone::Circuit(r) => Answer::from(r),
+            NotDone::RoomTooSmall(n) => Answer::new(27, n),
+        }
     }
 }
 
-pub fn place(a: Outcome) -> usize
-    ensures { result ≡ (answer_of a).place }
+// The row of what reading or writing answers.
+pub fn answer(r: Result<usize, NotDone>) -> Answer
+    ensures { row_of result ≡ answer_of r }
 {
-    match a {
-        Outcome::Done(n) => n,
-        Outcome::BadText(n) => n,
-        Outcome::Circuit(f) => refusal_place(f),
-        Outcome::RoomTooSmall(n) => n,
+    match r {
+        Ok(n) => Answer::new(0, n),
+        Err(f) => Answer::from(f),
     }
 }

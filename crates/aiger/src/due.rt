@@ -4,7 +4,7 @@ ghost use Rattle.std.specs.Prelude.{◌≡◌, ◌<◌, length, drop};
 ghost use Rattle.text.specs.Numbers.{bytes_of};
 ghost use Rattle.text.specs.Readings.{mark, told, at_most, exactly};
 ghost use Rattle.aiger.specs.Texts.{begins_with, as_reset, reset_word, reset_due};
-ghost use Rattle.aiger.specs.Reads.{reached, Passes, Keeps};
+ghost use Rattle.aiger.specs.Reads.{at_start, KeptAs, NumberAt, Passes, Keeps};
 
 use text::scan::{NO_BYTE, NO_NUMBER, is_parting, word_at};
 
@@ -15,112 +15,104 @@ pub(crate) const NEWLINE: u8 = b'\n';
 // "a latch's own literal means free"
 const FREE: u32 = 2;
 
-// How far a text was read: no fault yet, and the place after what was read; or the fault's place. The table's first `filled` words are the
-// numbers that were kept.
-#[derive(Clone, Copy)]
+// How far a text was read without fault: the place after what was read. The table's first `filled` words are the numbers that were kept.
+#[derive(Clone, Copy, Debug, PartialEq, Eq)]
 pub(crate) struct Reached {
-    pub good: bool,
     pub place: usize,
     pub filled: usize,
 }
 
+impl Reached {
+    // One number more is kept.
+    fn keep(self, n: u32, end: usize, table: &mut [u32]) -> Reached
+        requires { self.filled < length table.old }
+        ensures { KeptAs self n end table.old result table.new }
+    {
+        table[self.filled] = n;
+        Reached {
+            place: end,
+            filled: self.filled + 1,
+        }
+    }
+}
+
 // The word `aag`, at the start of the text.
-pub(crate) fn name(text: &[u8]) -> Reached
-    ensures { ((table : _) → reached text.now result table ≡ told (bytes_of "aag") 0 text.now) × (result.filled ≡ 0) }
+pub(crate) fn name(text: &[u8]) -> Result<Reached, usize>
+    ensures { Passes (told (bytes_of "aag")) text.now at_start result }
 {
-    let wrong = Reached {
-        good: false,
+    let start = Reached {
         place: 0,
         filled: 0,
     };
-    if text.len() < 3 {
-        return wrong;
+    if !text.starts_with(b"aag") {
+        return Err(start.place);
     }
-    if (text[0] != b'a') | (text[1] != b'a') | (text[2] != b'g') {
-        return wrong;
+    if 3 < text.len() && !is_parting(text[3]) {
+        return Err(start.place);
     }
-    if 3 < text.len() {
-        if !is_parting(text[3]) {
-            return wrong;
-        }
-    }
-    Reached {
-        good: true,
-        place: 3,
-        filled: 0,
-    }
+    Ok(Reached { place: 3, ..start })
+}
+
+// Whether a byte stands at a place.
+fn stands(text: &[u8], at: usize, byte: u8) -> bool
+    ensures { result ≡ begins_with byte (drop at text.now) }
+{
+    at < text.len() && text[at] == byte
 }
 
 // A space between two words, or the newline that ends a line.
-pub(crate) fn mark(text: &[u8], before: Reached, byte: u8) -> Reached
+pub(crate) fn mark(text: &[u8], before: Reached, byte: u8) -> Result<Reached, usize>
     ensures { Passes (mark byte) text.now before result }
 {
-    if !before.good {
-        return before;
+    if !stands(text, before.place, byte) {
+        return Err(before.place);
     }
-    let at = before.place;
-    if at < text.len() {
-        if text[at] == byte {
-            return Reached {
-                good: true,
-                place: at + 1,
-                filled: before.filled,
-            };
-        }
+    Ok(Reached {
+        place: before.place + 1,
+        ..before
+    })
+}
+
+// The number that stands at a place, and where it ends; or the place, where none does.
+fn number(text: &[u8], at: usize) -> Result<(u32, usize), usize>
+    ensures { NumberAt text.now at result }
+{
+    let word = word_at(text, at);
+    if word.state == NO_BYTE || NO_NUMBER <= word.state {
+        return Err(at);
     }
-    Reached {
-        good: false,
-        place: at,
-        filled: before.filled,
-    }
+    Ok(((word.state - 1) as u32, word.end))
 }
 
 // A number that is known beforehand.
-pub(crate) fn exactly(text: &[u8], before: Reached, n: u32) -> Reached
+pub(crate) fn exactly(text: &[u8], before: Reached, n: u32) -> Result<Reached, usize>
     ensures { Passes (exactly n) text.now before result }
 {
-    if !before.good {
-        return before;
+    let (told, end) = number(text, before.place)?;
+    if told != n {
+        return Err(before.place);
     }
-    let word = word_at(text, before.place);
-    let state = n as u64 + 1;
-    if (word.state == state) & (state < NO_NUMBER) {
-        return Reached {
-            good: true,
-            place: word.end,
-            filled: before.filled,
-        };
-    }
-    Reached {
-        good: false,
-        place: before.place,
-        filled: before.filled,
-    }
+    Ok(Reached {
+        place: end,
+        ..before
+    })
 }
 
 // A number that is kept.
-pub(crate) fn at_most(text: &[u8], before: Reached, most: u32, table: &mut [u32]) -> Reached
+pub(crate) fn at_most(
+    text: &[u8],
+    before: Reached,
+    most: u32,
+    table: &mut [u32],
+) -> Result<Reached, usize>
     requires { before.filled < length table.old }
     ensures { Keeps 1 (at_most most) text.now before table.old result table.new }
 {
-    if !before.good {
-        return before;
+    let (n, end) = number(text, before.place)?;
+    if most < n {
+        return Err(before.place);
     }
-    let filled = before.filled;
-    let word = word_at(text, before.place);
-    if (word.state == NO_BYTE) | (NO_NUMBER <= word.state) | (most as u64 + 1 < word.state) {
-        return Reached {
-            good: false,
-            place: before.place,
-            filled,
-        };
-    }
-    table[filled] = (word.state - 1) as u32;
-    Reached {
-        good: true,
-        place: word.end,
-        filled: filled + 1,
-    }
+    Ok(before.keep(n, end, table))
 }
 
 // A reset as it is kept: the latch's own literal as FREE.
@@ -131,64 +123,31 @@ fn as_reset(own: u32, n: u32) -> u32
 }
 
 // A reset: 0, 1 or the latch's own literal.
-fn reset_word(text: &[u8], before: Reached, own: u32, table: &mut [u32]) -> Reached
+fn reset_word(text: &[u8], before: Reached, own: u32, table: &mut [u32]) -> Result<Reached, usize>
     requires { before.filled < length table.old }
     ensures { Keeps 1 (reset_word own) text.now before table.old result table.new }
 {
-    if !before.good {
-        return before;
+    let (n, end) = number(text, before.place)?;
+    if n != own && 1 < n {
+        return Err(before.place);
     }
-    let filled = before.filled;
-    let wrong = Reached {
-        good: false,
-        place: before.place,
-        filled,
-    };
-    let word = word_at(text, before.place);
-    if (word.state == NO_BYTE) | (NO_NUMBER <= word.state) {
-        return wrong;
-    }
-    let n = (word.state - 1) as u32;
-    if (n != own) & (1 < n) {
-        return wrong;
-    }
-    table[filled] = as_reset(own, n);
-    Reached {
-        good: true,
-        place: word.end,
-        filled: filled + 1,
-    }
-}
-
-// Whether a byte stands at a place.
-fn stands(text: &[u8], at: usize, byte: u8) -> bool
-    ensures { result ≡ begins_with byte (drop at text.now) }
-{
-    if at < text.len() {
-        text[at] == byte
-    } else {
-        false
-    }
+    Ok(before.keep(as_reset(own, n), end, table))
 }
 
 // The end of a latch's line: "a missing latch reset is 0".
-pub(crate) fn reset(text: &[u8], before: Reached, own: u32, table: &mut [u32]) -> Reached
+pub(crate) fn reset(
+    text: &[u8],
+    before: Reached,
+    own: u32,
+    table: &mut [u32],
+) -> Result<Reached, usize>
     requires { before.filled < length table.old }
     ensures { Keeps 1 (reset_due own) text.now before table.old result table.new }
 {
-    if !before.good {
-        return before;
-    }
     if stands(text, before.place, NEWLINE) {
-        let filled = before.filled;
-        table[filled] = 0;
-        return Reached {
-            good: true,
-            place: before.place + 1,
-            filled: filled + 1,
-        };
+        return Ok(before.keep(0, before.place + 1, table));
     }
-    let spaced = mark(text, before, SPACE);
-    let read = reset_word(text, spaced, own, table);
+    let spaced = mark(text, before, SPACE)?;
+    let read = reset_word(text, spaced, own, table)?;
     mark(text, read, NEWLINE)
 }

@@ -11,11 +11,21 @@ pub mod write;
 
 use problem::Refusal;
 
-// The answers to reading and to writing; `answer` gives the number and the place of each.
-#[derive(Clone, Copy)]
-pub enum Outcome {
-    Done(usize),
+// Why nothing was read or written; `answer` gives the number and the place of each.
+#[derive(Clone, Copy, Debug, PartialEq, Eq)]
+pub enum NotDone {
     BadText(usize),
     Circuit(Refusal),
     RoomTooSmall(usize),
+}
+
+impl From<Refusal> for NotDone {
+    ghost use Rattle.std.specs.Prelude.{◌≡◌};
+    ghost use Rattle.aiger.specs.declared.NotDone.TheVariants as not_done;
+
+    ghost from_gives = { λ f r. r ≡ not_done.Circuit f };
+
+    fn from(f: Refusal) -> NotDone {
+        NotDone::Circuit(f)
+    }
 }

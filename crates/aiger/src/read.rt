@@ -1,17 +1,18 @@
 // Reads a circuit's text: its words, or the place of the fault.
-ghost use Rattle.std.specs.Prelude.{◌≡◌, ◌+◌, ◌*◌, ◌≤◌, length, take};
+ghost use Rattle.std.specs.Prelude.{◌≡◌, ◌+◌, ◌*◌, ◌≤◌, length, take, MatchResult};
 ghost use Rattle.answers.specs.Lists.{written};
 ghost use Rattle.text.specs.Promise.{placed};
 ghost use Rattle.answers.specs.Limits.{inputs_limit, latches_limit, outputs_limit, gates_limit};
 ghost use Rattle.aiger.specs.Circuits.{words_in_all};
-ghost use Rattle.aiger.specs.Texts.{in_order};
+ghost use Rattle.text.specs.Readings.{fault};
+ghost use Rattle.aiger.specs.Texts.{in_order, circuit_read};
 ghost use Rattle.aiger.specs.Promise.{ReadAs};
-ghost use Rattle.aiger.specs.Reads.{sizes_of, Fitting, numbers_kept, Judged};
+ghost use Rattle.aiger.specs.Reads.{FoundWords, numbers_kept};
 
-use crate::Outcome;
+use crate::NotDone;
 use crate::due::Reached;
 use crate::lines::{all_lines, opening};
-use crate::sizes::{Sizes, width, words_in_all};
+use crate::sizes::Sizes;
 use answers::limits::{GATES_LIMIT, INPUTS_LIMIT, LATCHES_LIMIT, LONGEST_TEXT, OUTPUTS_LIMIT};
 
 // Two numbers for each line, the most that any keeps; the header's five fit too.
@@ -24,41 +25,27 @@ const TABLE: usize = 2
 // The place of M's word.
 const VARIABLE_PLACE: usize = 4;
 
-// A text without fault, by its sizes, or the fault's place.
-#[derive(Clone, Copy)]
-pub(crate) enum Judgement {
-    Good(Sizes),
-    Fault(usize),
-}
-
-// 19 of the lines. At the end the table has the numbers that they keep.
-fn judge(text: &[u8], table: &mut [u32]) -> Judgement
+// 19 of the lines, or their sizes. At the end the table has the numbers that they keep.
+fn judge(text: &[u8], table: &mut [u32]) -> Result<Sizes, usize>
     requires { 2 * (inputs_limit + latches_limit + outputs_limit + gates_limit) ≤ length table.old }
-    ensures { Judged text.now result table.new }
+    ensures { MatchResult result (λ s. (numbers_kept s ≤ length table.new) × FoundWords (circuit_read text.now) (in_order s (take (numbers_kept s) table.new))) (λ p. circuit_read text.now ≡ fault p) }
 {
-    let opened = opening(text, table);
-    if !opened.good {
-        return Judgement::Fault(opened.place);
-    }
+    let opened = opening(text, table)?;
     let s = Sizes {
         inputs: table[1],
         latches: table[2],
         gates: table[4],
         outputs: table[3],
     };
-    if table[0] != width(s) {
-        return Judgement::Fault(VARIABLE_PLACE);
+    if table[0] != s.width() {
+        return Err(VARIABLE_PLACE);
     }
     let from = Reached {
-        good: true,
         place: opened.place,
         filled: 0,
     };
-    let ended = all_lines(text, from, s, table);
-    if !ended.good {
-        return Judgement::Fault(ended.place);
-    }
-    Judgement::Good(s)
+    all_lines(text, from, s, table)?;
+    Ok(s)
 }
 
 // Some words from a place on, and the place after them.
@@ -66,18 +53,15 @@ fn copy(words: &[u32], at: usize, room: &mut [u32]) -> usize
     requires { at + length words.now ≤ length room.old }
     ensures { (result ≡ at + length words.now) × (room.new ≡ placed words.now at room.old) }
 {
-    let mut i = 0;
-    while i < words.len() {
-        room[at + i] = words[i];
-        i += 1;
-    }
-    at + i
+    let next = at + words.len();
+    room[at..next].copy_from_slice(words);
+    next
 }
 
 // I, L, A, O, the latches, the gates, the outputs; the table has the outputs before the gates.
 fn deliver(s: Sizes, table: &[u32], room: &mut [u32])
-    requires { Fitting (sizes_of s) × (numbers_kept (sizes_of s) ≤ length table.now) × (words_in_all (sizes_of s) ≤ length room.old) }
-    ensures { room.new ≡ written (in_order (sizes_of s) (take (numbers_kept (sizes_of s)) table.now)) room.old }
+    requires { (numbers_kept s ≤ length table.now) × (words_in_all s ≤ length room.old) }
+    ensures { room.new ≡ written (in_order s (take (numbers_kept s) table.now)) room.old }
 {
     let header = [s.inputs, s.latches, s.gates, s.outputs];
     let outputs = 2 * (s.latches as usize);
@@ -90,21 +74,18 @@ fn deliver(s: Sizes, table: &[u32], room: &mut [u32])
 }
 
 // 19, 27 or the words.
-pub fn read(text: &[u8], room: &mut [u32]) -> Outcome
+pub fn read(text: &[u8], room: &mut [u32]) -> Result<usize, NotDone>
     ensures { ReadAs text.now room.old result room.new }
 {
     let mut table = [0u32; TABLE];
-    let s = match judge(text, &mut table) {
-        Judgement::Good(s) => s,
-        Judgement::Fault(place) => return Outcome::BadText(place),
-    };
+    let s = judge(text, &mut table).map_err(NotDone::BadText)?;
     if LONGEST_TEXT < text.len() {
-        return Outcome::BadText(LONGEST_TEXT);
+        return Err(NotDone::BadText(LONGEST_TEXT));
     }
-    let needed = words_in_all(s);
+    let needed = s.words_in_all();
     if room.len() < needed {
-        return Outcome::RoomTooSmall(needed);
+        return Err(NotDone::RoomTooSmall(needed));
     }
     deliver(s, &table, room);
-    Outcome::Done(needed)
+    Ok(needed)
 }

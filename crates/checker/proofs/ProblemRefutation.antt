@@ -20,9 +20,15 @@ use Rattle.answers.proofs.Tests.{both_true, first_true, second_true, all_of_appe
 use Rattle.answers.proofs.Answers.{passing, other_than, number_after, first_failing_passed, first_failing_joined, numbered_passing, number_of}
 use Rattle.clauses.proofs.Judges.{steps_judged, cnf_judged, clauses_judged}
 use Rattle.clauses.proofs.ReadBack.{words_ended}
-use Rattle.refutation.specs.declared.RefutationAnswer.{RefutationAnswer}
-use Rattle.refutation.specs.declared.RefutationAnswer.TheVariants as cnf-answers
+use Rattle.std.specs.Prelude.{Result, Ok, Err, MatchResult}
+use Rattle.std.specs.Result.{IsErrAnd}
+use Rattle.std.proofs.lemmas.Result.{err_from_is_err_and}
+use Rattle.refutation.specs.declared.NotRefuted.{NotRefuted}
+use Rattle.refutation.specs.declared.NotRefuted.TheVariants as not-refuted
 use Rattle.refutation.specs.Promise.{answer_of, Judged}
+use Rattle.encoder.specs.declared.NotWritten.TheVariants as not-written
+use Rattle.checker.specs.declared.Unrefuted.{Unrefuted}
+use Rattle.checker.specs.declared.Unrefuted.TheVariants.{Cnf, Refutation}
 use Rattle.meaning.specs.Problem.{Problem, problem}
 use Rattle.meaning.specs.Proper.{Proper}
 use Rattle.meaning.specs.Cnf.{cnf, cnf_words, variables}
@@ -38,12 +44,8 @@ use Rattle.problem.specs.declared.Refusal.TheVariants.{BadVersion, BadLength, Ou
 use Rattle.problem.specs.Promise.{refusal_answer}
 use Rattle.problem.proofs.Formed.{passes_if_handed_on}
 use Rattle.counts.specs.declared.Counts.{Counts}
-use Rattle.checker.specs.declared.prepare.Prepared.{Prepared}
-use Rattle.checker.specs.declared.prepare.Prepared.TheVariants as prepared
 use Rattle.checker.specs.Preparing.{prepared_then, PreparedAs}
-use Rattle.checker.specs.declared.Refuted.{Refuted}
-use Rattle.checker.specs.declared.Refuted.TheVariants as answers
-use Rattle.checker.specs.Refutation.{refuted_answer, refuted_of, CnfHeld, JudgedFor, JudgedAs}
+use Rattle.checker.specs.Refutation.{unrefuted_answer, refuted_answer, CnfHeld, JudgedFor, JudgedAs}
 
 -- ════════ The words of a CNF pass 16 ════════
 
@@ -91,14 +93,20 @@ clauses_not_16 v cs ws m n e =
 
 -- ════════ The CNF in the room ════════
 
--- A judgement that is no 16 has the answer for the problem.
-same_answer : (a : RefutationAnswer) → ((answer_of a).number ≡ 16 → ⊥) → refuted_answer (refuted_of a) ≡ answer_of a
-same_answer cnf-answers.Yes e = refl
-same_answer (cnf-answers.BadCnf i) e = absurd (e refl)
-same_answer (cnf-answers.BadRefutation i) e = refl
-same_answer (cnf-answers.AreaTooSmall n) e = refl
-same_answer (cnf-answers.StepRefused i) e = refl
-same_answer (cnf-answers.NotClosed n) e = refl
+-- A judgement of the CNF is that of its problem.
+abbrev pub lifted : Result Unit NotRefuted → Result Unit Unrefuted
+lifted (Ok u) = Ok tt
+lifted (Err f) = Err (Refutation f)
+
+-- It is what the judge hands on.
+pub lifted_is : (a : Result Unit NotRefuted) (r : Result Unit Unrefuted)
+    → MatchResult a (λ u. r ≡ Ok u) (λ f. IsErrAnd r (λ e. e ≡ Refutation f)) → r ≡ lifted a
+lifted_is (Ok u) r m = m
+lifted_is (Err f) r m = let p = err_from_is_err_and r m in rw (p.1, p.2) refl
+
+same_answer : (a : Result Unit NotRefuted) → refuted_answer (lifted a) ≡ answer_of a
+same_answer (Ok u) = refl
+same_answer (Err f) = refl
 
 module _ {p : Problem} {n : Counts} {room : List ℤ} (c : CnfHeld p n room) where
   variables_are : n.variables ≡ variables p
@@ -107,13 +115,13 @@ module _ {p : Problem} {n : Counts} {room : List ℤ} (c : CnfHeld p n room) whe
   pub variables_few : n.variables ≤ variables_limit
   variables_few = rw variables_are (variables_fit p c.proper)
 
-  pub judged_for : {refutation : List ℤ} {numbers clauses : List ℕ} {a : RefutationAnswer} {numbers' clauses' : List ℕ}
+  pub judged_for : {refutation : List ℤ} {numbers clauses : List ℕ} {a : Result Unit NotRefuted} {numbers' clauses' : List ℕ}
       → Judged n.variables (take n.words room) refutation numbers clauses a numbers' clauses'
-      → JudgedFor p refutation numbers clauses (refuted_of a) numbers' clauses'
+      → JudgedFor p refutation numbers clauses (lifted a) numbers' clauses'
   judged_for {refutation} {numbers} {clauses} {a} {numbers'} {clauses'} j =
       let here : Judged (variables p) (cnf_words p) refutation numbers clauses a numbers' clauses' = rw (c.held, variables_are) at j in
       let is = here.answered ∙ judged_as_clauses p c.proper refutation (length numbers) (length clauses) in
-      let same = same_answer a (λ e. clauses_not_16 (variables p) (cnf p) refutation (length numbers) (length clauses) (sym (number_of is) ∙ e)) in
+      let same = same_answer a in
       record {
         answered = same ∙ is;
         numbers_left = here.numbers_left ∙ rw same;
@@ -122,28 +130,20 @@ module _ {p : Problem} {n : Counts} {room : List ℤ} (c : CnfHeld p n room) whe
 
 -- ════════ The outcomes ════════
 
-refusal_unchanged : (f : Refusal) → judged (refusal_answer f) ≡ false
-refusal_unchanged BadVersion = refl
-refusal_unchanged (BadLength n) = refl
-refusal_unchanged (OutsideLimits i) = refl
-refusal_unchanged (BadReset i) = refl
-refusal_unchanged (BadLiteral i) = refl
-refusal_unchanged (BadNode i) = refl
-
 module _ (version : ℕ) (ws : List ℕ) (refutation room : List ℤ) (numbers clauses : List ℕ) where
-  abbrev Prepares : Prepared → List ℤ → Type 0
+  abbrev Prepares : Result Counts Unrefuted → List ℤ → Type 0
   Prepares = PreparedAs version ws refutation (length numbers) (length clauses) room
 
   abbrev steps_answer : Answer
   steps_answer = judge_steps (cnf (problem version ws)) (steps_of refutation)
 
   -- What is checked before the steps, and then they.
-  answer_is : {r : Prepared} {room' : List ℤ} → Prepares r room'
+  answer_is : {r : Result Counts Unrefuted} {room' : List ℤ} → Prepares r room'
       → prepared_then r steps_answer ≡ judge_refutation version ws refutation (length room) (length numbers) (length clauses)
   answer_is a = a.answered steps_answer ∙ sym (refutation_by_steps version ws refutation (length room) (length numbers) (length clauses))
 
   -- A refusal before the CNF is written changes nothing.
-  nothing_changed : (r : Refuted) → refuted_answer r ≡ judge_refutation version ws refutation (length room) (length numbers) (length clauses)
+  nothing_changed : (r : Result Unit Unrefuted) → refuted_answer r ≡ judge_refutation version ws refutation (length room) (length numbers) (length clauses)
       → judged (refuted_answer r) ≡ false → JudgedAs version ws refutation room numbers clauses r room numbers clauses
   unfolding room_after_judging numbers_area_after clauses_area_after area_after
   nothing_changed r is unchanged = record {
@@ -154,20 +154,12 @@ module _ (version : ℕ) (ws : List ℕ) (refutation room : List ℤ) (numbers c
     excludes = λ yes. problem_refuted version ws refutation (length room) (length numbers) (length clauses) (sym is ∙ ap refuted_answer yes);
   }
 
-  pub problem_refused : {f : Refusal} {room' : List ℤ} → Prepares (prepared.Problem f) room' → JudgedAs version ws refutation room numbers clauses (answers.Problem f) room' numbers clauses
-  problem_refused {f} a = rw a.room_after (nothing_changed (answers.Problem f) (answer_is a) (refusal_unchanged f))
-
-  pub room_refused : {n : ℕ} {room' : List ℤ} → Prepares (prepared.RoomTooSmall n) room' → JudgedAs version ws refutation room numbers clauses (answers.RoomTooSmall n) room' numbers clauses
-  room_refused {n} a = rw a.room_after (nothing_changed (answers.RoomTooSmall n) (answer_is a) refl)
-
-  pub words_refused : {i : ℕ} {room' : List ℤ} → Prepares (prepared.BadRefutation i) room' → JudgedAs version ws refutation room numbers clauses (answers.BadRefutation i) room' numbers clauses
-  words_refused {i} a = rw a.room_after (nothing_changed (answers.BadRefutation i) (answer_is a) refl)
-
-  pub area_refused : {n : ℕ} {room' : List ℤ} → Prepares (prepared.AreaTooSmall n) room' → JudgedAs version ws refutation room numbers clauses (answers.AreaTooSmall n) room' numbers clauses
-  area_refused {n} a = rw a.room_after (nothing_changed (answers.AreaTooSmall n) (answer_is a) refl)
+  pub refused_before : {f : Unrefuted} {room' : List ℤ} → Prepares (Err f) room'
+      → JudgedAs version ws refutation room numbers clauses (Err f) room' numbers clauses
+  refused_before {f} a = rw a.room_after (nothing_changed (Err f) (answer_is a) a.before_steps)
 
   -- Where the CNF is written all that is checked before the steps is right.
-  module _ {n : Counts} {room' : List ℤ} (a : Prepares (prepared.Written n) room') where
+  module _ {n : Counts} {room' : List ℤ} (a : Prepares (Ok n) room') where
     abbrev checks : List (List Check)
     checks = preparing_parts (problem version ws) refutation (length room) (length numbers) (length clauses)
 
@@ -203,7 +195,7 @@ module _ (version : ℕ) (ws : List ℕ) (refutation room : List ℤ) (numbers c
       held = rw (a.room_after, words_are) (take-append_seam (cnf_words (problem version ws)) _);
     }
 
-    pub steps_answered : {r : Refuted} {numbers' clauses' : List ℕ} → JudgedFor (problem version ws) refutation numbers clauses r numbers' clauses'
+    pub steps_answered : {r : Result Unit Unrefuted} {numbers' clauses' : List ℕ} → JudgedFor (problem version ws) refutation numbers clauses r numbers' clauses'
         → JudgedAs version ws refutation room numbers clauses r room' numbers' clauses'
     unfolding room_after_judging numbers_area_after clauses_area_after
     steps_answered {r} j =

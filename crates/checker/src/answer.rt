@@ -1,36 +1,28 @@
-// Document 01's number and place of each answer to a refutation of a problem's CNF.
+// Document 01's row of each refusal of a refutation of a problem's CNF.
 ghost use Rattle.std.specs.Prelude.{◌≡◌};
-ghost use Rattle.checker.specs.Refutation.{refuted_answer};
+ghost use Rattle.answers.specs.Table.{row_of};
+ghost use Rattle.checker.specs.Refutation.{refuted_answer, unrefuted_answer};
 
-use crate::Refuted;
-use problem::answer::{refusal_number, refusal_place};
+use crate::Unrefuted;
+use answers::answer::Answer;
 
-const YES: u32 = 0;
+impl From<Unrefuted> for Answer {
+    ghost from_gives = { λ f a. row_of a ≡ unrefuted_answer f };
 
-pub fn number(a: Refuted) -> u32
-    ensures { result ≡ (refuted_answer a).number }
-{
-    match a {
-        Refuted::Yes => YES,
-        Refuted::Problem(f) => refusal_number(f),
-        Refuted::RoomTooSmall(_) => 6,
-        Refuted::BadRefutation(_) => 11,
-        Refuted::AreaTooSmall(_) => 12,
-        Refuted::StepRefused(_) => 13,
-        Refuted::NotClosed(_) => 14,
+    fn from(f: Unrefuted) -> Answer {
+        match f {
+            Unrefuted::Cnf(f) => Answer::from(f),
+            Unrefuted::Refutation(f) => Answer::from(f),
+        }
     }
 }
 
-pub fn place(a: Refuted) -> usize
-    ensures { result ≡ (refuted_answer a).place }
+// The row of what judging answers.
+pub fn answer(r: Result<(), Unrefuted>) -> Answer
+    ensures { row_of result ≡ refuted_answer r }
 {
-    match a {
-        Refuted::Yes => 0,
-        Refuted::Problem(f) => refusal_place(f),
-        Refuted::RoomTooSmall(n) => n,
-        Refuted::BadRefutation(i) => i,
-        Refuted::AreaTooSmall(n) => n,
-        Refuted::StepRefused(i) => i,
-        Refuted::NotClosed(n) => n,
+    match r {
+        Ok(()) => Answer::new(0, 0),
+        Err(f) => Answer::from(f),
     }
 }

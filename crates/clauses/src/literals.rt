@@ -2,13 +2,9 @@
 ghost use Rattle.std.specs.Prelude.{◌≡◌};
 ghost use Rattle.clauses.specs.Clauses.{variable_of};
 
-// The number of a literal's variable. The negation of the least i32 fits an i64.
+// The number of a literal's variable.
 pub fn variable(w: i32) -> usize
     ensures { result ≡ variable_of w }
 {
-    if w < 0 {
-        (-(w as i64)) as usize
-    } else {
-        w as usize
-    }
+    w.unsigned_abs() as usize
 }

@@ -1,3 +1,3 @@
 -- What counting promises.
 pub mod Promise
-pub mod Weighing
+pub mod Few

@@ -1,23 +1,14 @@
 // Variables, clauses and words of a CNF in closed form.
-ghost use Rattle.std.specs.Prelude.{◌≡◌, true, ℕ, suc};
+ghost use Rattle.std.specs.Prelude.{◌≡◌, true, ℕ, ◌+◌, ◌*◌, ◌^◌, ◌≤◌, ◌<◌};
 ghost use Rattle.answers.specs.Lists.{sum};
 ghost use Rattle.meaning.proofs.ClosedForms.{variables_of, item_totals};
+ghost use Rattle.counts.specs.Few.{Few};
 ghost use Rattle.counts.specs.Promise.{tally_of, few, counts_by};
-ghost use Rattle.counts.specs.Weighing.{Light, Weighs};
 
 use crate::{Counts, Tally};
 
 // No problem within the limits has as many of anything; below it no closed form leaves a word of 64 bits.
 const TOO_MANY: usize = 65536;
-
-// What a clause of one, of two and of three literals weighs, and the clause -E s(0)..s(k).
-#[derive(Clone, Copy)]
-struct Weights {
-    one: usize,
-    two: usize,
-    three: usize,
-    long: usize,
-}
 
 // Few enough for the closed forms, and a position at least.
 fn is_few(t: Tally) -> bool
@@ -33,9 +24,18 @@ fn is_few(t: Tally) -> bool
     sizes & (t.equals < TOO_MANY) & (t.ors < TOO_MANY) & (t.untils < TOO_MANY)
 }
 
+// What stands so often at each of some places, and has a weight. The bounds keep it, and any few such together, below 2^64.
+fn at_each(places: usize, times: usize, weight: usize) -> usize
+    requires { (places < 2 ^ 32) × (times < 2 ^ 18) × (weight ≤ 64) }
+    ensures is { result ≡ places * (times * weight) }
+    ensures bound { result ≤ 2 ^ 56 }
+{
+    places * (times * weight)
+}
+
 // V: 1, then W variables and a selector for each position, then 2k + 3 for each node.
 fn variables_in(t: Tally) -> usize
-    requires { few (tally_of t) ≡ true }
+    requires { Few (tally_of t) }
     ensures { result ≡ variables_of (tally_of t) }
 {
     let Tally {
@@ -46,15 +46,16 @@ fn variables_in(t: Tally) -> usize
         untils,
         ..
     } = t;
-    let circuit = positions * (width + 1);
-    let nodes = (equals + ors + untils) * (2 * positions + 1);
+    let circuit = at_each(positions, width + 1, 1);
+    let nodes = at_each(2 * positions + 1, equals + ors + untils, 1);
     1 + circuit + nodes
 }
 
-// Items 1 to 8 in order, the constraints after item 2; item 7 is P and Q at each position, and then E.
-fn total_in(t: Tally, w: Weights) -> usize
-    requires { (few (tally_of t) ≡ true) × Light w }
-    ensures { (weight : ℕ → ℕ) → Weighs weight t.positions w → result ≡ sum (item_totals weight (tally_of t)) }
+// Items 1 to 8 in order, the constraints after item 2; item 7 is P and Q at each position, and then E, with its clause -E s(0)..s(k).
+// A clause of n literals weighs 1 + n * each: of clauses `each` is 0, of their words 1.
+fn total_in(t: Tally, each: usize) -> usize
+    requires { Few (tally_of t) × (each ≤ 1) }
+    ensures { (weight : ℕ → ℕ) → ((n : ℕ) → weight n ≡ 1 + n * each) → result ≡ sum (item_totals weight (tally_of t)) }
 {
     let Tally {
         positions,
@@ -67,60 +68,30 @@ fn total_in(t: Tally, w: Weights) -> usize
         untils,
         ..
     } = t;
-    let Weights {
-        one,
-        two,
-        three,
-        long,
-    } = w;
+    let one = 1 + each;
+    let two = 1 + 2 * each;
+    let three = 1 + 3 * each;
     let equal = 2 * two;
     let or = 2 * two + three;
     let until = two + 3 * three;
     let selected = 2 * three;
-    let gates_item = positions * (gates * or);
-    let constraints_item = positions * (constraints * one);
-    let resets_item = fixed * one;
-    let steps_item = (positions - 1) * (latches * equal);
-    let closing_item = positions * (latches * selected);
-    let selectors_item = positions * (positions - 1) / 2 * two;
-    let values = equals * (equal + equal) + ors * (or + equal) + untils * (until + until);
-    let ends = positions * selected + long;
-    let nodes_item = positions * values + (equals + ors + untils) * ends;
+    let gates_item = at_each(positions, gates, or);
+    let constraints_item = at_each(positions, constraints, one);
+    let resets_item = at_each(1, fixed, one);
+    let steps_item = at_each(positions - 1, latches, equal);
+    let closing_item = at_each(positions, latches, selected);
+    let pairs = at_each(positions, positions - 1, 1) / 2;
+    let selectors_item = at_each(pairs, 1, two);
+    let equals_item = at_each(positions, equals, equal + equal);
+    let ors_item = at_each(positions, ors, or + equal);
+    let untils_item = at_each(positions, untils, until + until);
+    let nodes = equals + ors + untils;
+    let ends_item = at_each(positions, nodes, selected)
+        + nodes
+        + at_each(positions + 1, nodes, each);
     let circuit = one + gates_item + constraints_item + resets_item + steps_item;
+    let nodes_item = equals_item + ors_item + untils_item + ends_item;
     circuit + closing_item + selectors_item + nodes_item + one
-}
-
-// Each clause is one.
-fn clauses_in(t: Tally) -> usize
-    requires { few (tally_of t) ≡ true }
-    ensures { result ≡ sum (item_totals (λ n. 1) (tally_of t)) }
-{
-    total_in(
-        t,
-        Weights {
-            one: 1,
-            two: 1,
-            three: 1,
-            long: 1,
-        },
-    )
-}
-
-// A clause of n literals is n + 1 words.
-fn words_in(t: Tally) -> usize
-    requires { few (tally_of t) ≡ true }
-    ensures { result ≡ sum (item_totals suc (tally_of t)) }
-{
-    let long = t.positions + 2;
-    total_in(
-        t,
-        Weights {
-            one: 2,
-            two: 3,
-            three: 4,
-            long,
-        },
-    )
 }
 
 // The numbers of the CNF of every proper problem in which so much is counted; 0s where too much is, or no position.
@@ -130,8 +101,8 @@ pub fn counts(t: Tally) -> Counts
     if is_few(t) {
         Counts {
             variables: variables_in(t),
-            clauses: clauses_in(t),
-            words: words_in(t),
+            clauses: total_in(t, 0),
+            words: total_in(t, 1),
         }
     } else {
         Counts {

@@ -9,11 +9,12 @@ use borrow.Author.Tests.{leb-true, le-leb, lt-leb, eqb-true, ne_eqb}
 use lib.Dec.{leb, lit<}
 use lib.IntN.{ℤ}
 use lib.ListN.{length, take, replicate}
+use Rattle.std.specs.Prelude.{Result, Ok, Err}
 use Rattle.answers.specs.Answers.{first_failing, granted}
 use Rattle.answers.proofs.Answers.{number_of, parts_append, all_pass_if_yes}
 use Rattle.clauses.specs.CnfWords.{clauses_of}
 use Rattle.clauses.specs.Refutations.{steps_of, judged, numbers_area, clauses_area}
-use Rattle.refutation.specs.declared.RefutationAnswer.{RefutationAnswer}
+use Rattle.refutation.specs.declared.NotRefuted.{NotRefuted}
 use Rattle.refutation.specs.Promise as judging
 use Rattle.refutation.specs.Promise.{Judged}
 use Rattle.meaning.specs.Problem.{problem}
@@ -21,29 +22,29 @@ use Rattle.meaning.specs.Witnesses.{witness_length}
 use Rattle.meaning.specs.Cnf.{cnf, cnf_words, variables}
 use Rattle.meaning.specs.Calls.{room_after_writing, room_after_judging, numbers_area_after, clauses_area_after}
 use Rattle.meaning.proofs.Check.{passes_at}
+use Rattle.counts.specs.declared.Counts.{Counts}
 use Rattle.problem.proofs.Unique.{refusal_not_yes}
-use Rattle.encoder.specs.declared.Encoded.{Encoded}
-use Rattle.encoder.specs.declared.Encoded.TheVariants as encodings
+use Rattle.encoder.specs.declared.NotWritten.{NotWritten}
+use Rattle.encoder.specs.declared.NotWritten.TheVariants as not-written
 use Rattle.encoder.specs.Promise as encoding
 use Rattle.encoder.specs.Promise.{EncodedAs}
 use Rattle.encoder.proofs.WrittenCnf.{written_only}
-use Rattle.finder.specs.declared.Finding.{Finding}
-use Rattle.finder.specs.declared.Finding.TheVariants as findings
 use Rattle.finder.specs.Calls.{room_after_finding}
+use Rattle.finder.specs.declared.NotFound.{NotFound}
+use Rattle.finder.specs.declared.NotFound.TheVariants as not-found
 use Rattle.finder.specs.Promise as finding
 use Rattle.finder.specs.Promise.{FoundAs}
 use Rattle.finder.proofs.Means.{found_first}
-use Rattle.job_file.specs.declared.texts.Printed.{Printed}
 use Rattle.job_file.specs.Promise.{Prints}
 use Rattle.text.specs.Readings.{Reading, found, fault}
-use Rattle.aiger.specs.declared.Outcome.{Outcome}
+use Rattle.aiger.specs.declared.NotDone.{NotDone}
 use Rattle.aiger.specs.Circuits.{circuit_parts}
 use Rattle.aiger.specs.Texts.{circuit_text, circuit_read}
 use Rattle.aiger.specs.Calls as circuits
 use Rattle.aiger.specs.Calls.{room_check, length_check, answer_to, words_found, read_answer, room_after_reading, write_answer}
 use Rattle.aiger.specs.Promise as texts
 use Rattle.aiger.proofs.CheckedCircuit.{good_by_number, more_if_good}
-use Rattle.checker.specs.declared.Refuted.{Refuted}
+use Rattle.checker.specs.declared.Unrefuted.{Unrefuted}
 use Rattle.checker.specs.Refutation.{refuted_answer, JudgedAs}
 use Rattle.demands.specs.Buffers.{KeptPast}
 use Rattle.demands.specs.BeforeSteps.{CnfReady, ProblemReady}
@@ -53,14 +54,14 @@ use Rattle.demands.proofs.BeforeSteps.{past_cnf, past_problem}
 -- ════════ The CNF writer ════════
 
 -- A refusal changes nothing; at 0 the room holds the CNF; what stands past it stays.
-module _ {version : ℕ} {ws : List ℕ} {before : List ℤ} {r : Encoded} {after : List ℤ} (e : EncodedAs version ws before r after) where
+module _ {version : ℕ} {ws : List ℕ} {before : List ℤ} {r : Result Counts NotWritten} {after : List ℤ} (e : EncodedAs version ws before r after) where
   cnf_fits : (encoding.answer_of r).number ≡ 0 → length (cnf_words (problem version ws)) ≤ length before
   cnf_fits = go r refl
     where
-      go : (s : Encoded) → r ≡ s → (encoding.answer_of s).number ≡ 0 → length (cnf_words (problem version ws)) ≤ length before
-      go (encodings.Written n) is at_0 = (written_only version ws before e is).1
-      go (encodings.Problem f) is at_0 = absurd (refusal_not_yes f at_0)
-      go (encodings.RoomTooSmall n) is at_0 = absurd (omega arith)
+      go : (s : Result Counts NotWritten) → r ≡ s → (encoding.answer_of s).number ≡ 0 → length (cnf_words (problem version ws)) ≤ length before
+      go (Ok n) is at_0 = (written_only version ws before e is).1
+      go (Err (not-written.Problem f)) is at_0 = absurd (refusal_not_yes f at_0)
+      go (Err (not-written.RoomTooSmall n)) is at_0 = absurd (omega arith)
 
   pub encoded_buffers :
       ((encoding.answer_of r).number ≢ 0 → after ≡ before)
@@ -74,7 +75,7 @@ module _ {version : ℕ} {ws : List ℕ} {before : List ℤ} {r : Encoded} {afte
 -- ════════ The finder ════════
 
 -- "The witness room is untouched on none", and at a refusal; what it holds at 0 is `found_first` of the finder.
-module _ {version : ℕ} {ws before : List ℕ} {r : Finding} {after : List ℕ} (call : FoundAs version ws before r after) where
+module _ {version : ℕ} {ws before : List ℕ} {r : Result ℕ NotFound} {after : List ℕ} (call : FoundAs version ws before r after) where
   unchanged_if_none : (finding.answer_of r).number ≢ 0 → after ≡ before
   unfolding room_after_finding
   unchanged_if_none refused = call.room_after ∙ rw (ne_eqb _ 0 refused)
@@ -82,21 +83,21 @@ module _ {version : ℕ} {ws before : List ℕ} {r : Finding} {after : List ℕ}
   room_kept : KeptPast (witness_length (problem version ws)) before after
   room_kept = go r refl
     where
-      first : {n : ℕ} → r ≡ findings.Found n → KeptPast (witness_length (problem version ws)) before after
+      first : {n : ℕ} → r ≡ Ok n → KeptPast (witness_length (problem version ws)) before after
       first is =
           let seen = found_first version ws before call is in
           let run = seen.3 in
           kept {new = run.0} {test = true} (record { length_is = run.2.length_right; is = run.1; fits = λ z. seen.1.fits })
 
-      refused : {s : Finding} → r ≡ s → ((finding.answer_of s).number ≡ 0 → ⊥) → KeptPast (witness_length (problem version ws)) before after
+      refused : {s : Result ℕ NotFound} → r ≡ s → ((finding.answer_of s).number ≡ 0 → ⊥) → KeptPast (witness_length (problem version ws)) before after
       refused is other = kept_if_unchanged (unchanged_if_none (λ at_0. other (rw is at at_0)))
 
-      go : (s : Finding) → r ≡ s → KeptPast (witness_length (problem version ws)) before after
-      go (findings.Found n) is = first is
-      go (findings.Problem f) is = refused is (refusal_not_yes f)
-      go (findings.TooMuchOpen n) is = refused is (λ z. omega arith)
-      go (findings.RoomTooSmall n) is = refused is (λ z. omega arith)
-      go findings.NoneExists is = refused is (λ z. omega arith)
+      go : (s : Result ℕ NotFound) → r ≡ s → KeptPast (witness_length (problem version ws)) before after
+      go (Ok n) is = first is
+      go (Err (not-found.Problem f)) is = refused is (refusal_not_yes f)
+      go (Err (not-found.TooMuchOpen n)) is = refused is (λ z. omega arith)
+      go (Err (not-found.RoomTooSmall n)) is = refused is (λ z. omega arith)
+      go (Err not-found.NoneExists) is = refused is (λ z. omega arith)
 
   pub found_buffers : ((finding.answer_of r).number ≢ 0 → after ≡ before) × KeptPast (witness_length (problem version ws)) before after
   found_buffers = (unchanged_if_none, room_kept)
@@ -104,7 +105,7 @@ module _ {version : ℕ} {ws before : List ℕ} {r : Finding} {after : List ℕ}
 -- ════════ The judge for any CNF ════════
 
 -- "When a refutation judge answers 13, 14 or yes, all the needed work words are 0"; another answer changes neither area.
-module _ {v : ℕ} {cnf refutation : List ℤ} {numbers clauses : List ℕ} {r : RefutationAnswer} {numbers' clauses' : List ℕ}
+module _ {v : ℕ} {cnf refutation : List ℤ} {numbers clauses : List ℕ} {r : Result Unit NotRefuted} {numbers' clauses' : List ℕ}
     (j : Judged v cnf refutation numbers clauses r numbers' clauses') where
   ready : judged (judging.answer_of r) ≡ true → CnfReady v cnf refutation (length numbers) (length clauses)
   ready done = ((past_cnf (judging.answer_of r) done v cnf refutation (length numbers) (length clauses)).0 (sym j.answered)).0
@@ -133,7 +134,7 @@ module _ {v : ℕ} {cnf refutation : List ℤ} {numbers clauses : List ℕ} {r :
 -- ════════ The judge of a problem's refutation ════════
 
 -- The same, and "the CNF room holds the CNF at 0, 13 and 14".
-module _ {version : ℕ} {ws : List ℕ} {refutation room : List ℤ} {numbers clauses : List ℕ} {r : Refuted} {room' : List ℤ} {numbers' clauses' : List ℕ}
+module _ {version : ℕ} {ws : List ℕ} {refutation room : List ℤ} {numbers clauses : List ℕ} {r : Result Unit Unrefuted} {room' : List ℤ} {numbers' clauses' : List ℕ}
     (j : JudgedAs version ws refutation room numbers clauses r room' numbers' clauses') where
   all_ready : judged (refuted_answer r) ≡ true → ProblemReady version ws refutation (length room) (length numbers) (length clauses)
   all_ready done =
@@ -179,7 +180,7 @@ words_fit text room (found ws p t) at_0 =
     let checks = length_check text ∷ room_check (length ws) room ∷ [] in
     leb-true _ _ (passes_at checks 1 (all_pass_if_yes checks (granted (length ws)) refl at_0) (lit< tt))
 
-pub read_buffers : {text before : List ℕ} {r : Outcome} {after : List ℕ} → texts.ReadAs text before r after
+pub read_buffers : {text before : List ℕ} {r : Result ℕ NotDone} {after : List ℕ} → texts.ReadAs text before r after
     → ((texts.answer_of r).number ≢ 0 → after ≡ before)
     × ((texts.answer_of r).number ≡ 0 → take (length (words_found (circuit_read text))) after ≡ words_found (circuit_read text))
     × KeptPast (length (words_found (circuit_read text))) before after
@@ -203,7 +204,7 @@ text_fits ws room at_0 =
     let answered = number_of (more_if_good ws (checks ∷ []) (granted needed) good) in
     leb-true _ _ (passes_at checks 0 (all_pass_if_yes checks (granted needed) refl (sym answered ∙ at_0)) (lit< tt))
 
-pub written_buffers : {ws before : List ℕ} {r : Outcome} {after : List ℕ} → texts.WrittenAs ws before r after
+pub written_buffers : {ws before : List ℕ} {r : Result ℕ NotDone} {after : List ℕ} → texts.WrittenAs ws before r after
     → ((texts.answer_of r).number ≢ 0 → after ≡ before)
     × ((texts.answer_of r).number ≡ 0 → take (length (circuit_text ws)) after ≡ circuit_text ws)
     × KeptPast (length (circuit_text ws)) before after
@@ -214,7 +215,7 @@ written_buffers {ws} {before} {r} a =
 
 -- ════════ A text that is printed ════════
 
-pub printed_buffers : {text out : List ℕ} {r : Printed} {out' : List ℕ} → Prints text out r out'
+pub printed_buffers : {text out : List ℕ} {r : Result ℕ ℕ} {out' : List ℕ} → Prints text out r out'
     → (length out < length text → out' ≡ out)
     × (length text ≤ length out → take (length text) out' ≡ text)
     × KeptPast (length text) out out'

@@ -9,12 +9,14 @@ use borrow.Author.Tests.{leb-true, leb-false, le-leb, lt-leb}
 use lib.Dec.{leb, eqb}
 use lib.IntN.{ℤ}
 use lib.ListN.{length}
+use Rattle.std.specs.Prelude.{Result, Ok, Err}
 use Rattle.answers.specs.Lists.{all_of, each}
 use Rattle.answers.specs.Answers.{Answer, answer, Check, check, first_failing, granted, area_too_small, room_too_small}
 use Rattle.clauses.specs.Refutations.{steps_of, refutation_checks, area_checks, judge_steps, judged}
 use Rattle.answers.proofs.Tests.{both_true, all_of_append, all_of_numbered}
 use Rattle.answers.proofs.Answers.{number_of, place_of, other_than, first_failing_passed, passed_by_number, number_after, all_pass_if_granted}
 use Rattle.clauses.proofs.Judges.{refutation_checks_refusing, steps_judged, clauses_judged}
+use Rattle.refutation.specs.declared.NotRefuted.TheVariants as not-refuted
 use Rattle.meaning.specs.Problem.{Problem, problem}
 use Rattle.meaning.specs.Cnf.{cnf, cnf_words, variables}
 use Rattle.meaning.specs.Calls.{WellFormed, write_cnf, judge_refutation}
@@ -23,16 +25,15 @@ use Rattle.meaning.proofs.Check.{checked_if_well_formed}
 use Rattle.meaning.proofs.Calls.{write_cnf_is, refutation_by_clauses}
 use Rattle.counts.specs.declared.Counts.{Counts}
 use Rattle.problem.specs.declared.ProblemRecord.{ProblemRecord}
-use Rattle.problem.specs.declared.Checked.TheVariants.{Good}
 use Rattle.problem.specs.Promise.{CheckedAs}
-use Rattle.encoder.specs.declared.Encoded.{Encoded}
-use Rattle.encoder.specs.declared.Encoded.TheVariants as encodings
+use Rattle.encoder.specs.declared.NotWritten.{NotWritten}
+use Rattle.encoder.specs.declared.NotWritten.TheVariants as not-written
 use Rattle.encoder.specs.Promise as encoding
 use Rattle.encoder.specs.Promise.{EncodedAs}
 use Rattle.encoder.proofs.Unique.{encoded_unique}
 use Rattle.job_file.proofs.PrintJob.{text_if_yes}
-use Rattle.checker.specs.declared.Refuted.{Refuted}
-use Rattle.checker.specs.declared.Refuted.TheVariants as judgements
+use Rattle.checker.specs.declared.Unrefuted.{Unrefuted}
+use Rattle.checker.specs.declared.Unrefuted.TheVariants as unrefuted
 use Rattle.checker.specs.Refutation.{refuted_answer, JudgedAs}
 use Rattle.encoder.proofs.WrittenCnf.{cnf_written, written_only}
 use Rattle.checker.proofs.RefutedUnique.{same_answer}
@@ -87,7 +88,7 @@ areas_refused by_numbers by_clauses numbers clauses n after not-12 = (
 
 -- ════════ The record's numbers ════════
 
-module _ {version : ℕ} {ws : List ℕ} {g : ProblemRecord} (c : CheckedAs version ws (Good g)) where
+module _ {version : ℕ} {ws : List ℕ} {g : ProblemRecord} (c : CheckedAs version ws (Ok g)) where
   abbrev p : Problem
   p = problem version ws
 
@@ -109,19 +110,19 @@ module _ {version : ℕ} {ws : List ℕ} {g : ProblemRecord} (c : CheckedAs vers
   write_cnf_by_record : (room : ℕ) → write_cnf version ws room ≡ room_answer g.counts.words room (granted g.counts.words)
   write_cnf_by_record room = write_cnf_is version ws room ∙ checked_if_well_formed version ws _ formed ∙ rw words_are
 
-  module _ {before after : List ℤ} {r : Encoded} (e : EncodedAs version ws before r after) where
-    pub room_by_record : (n : ℕ) → (r ≡ encodings.RoomTooSmall n) ↔ ((length before < g.counts.words) × (n ≡ g.counts.words))
+  module _ {before after : List ℤ} {r : Result Counts NotWritten} (e : EncodedAs version ws before r after) where
+    pub room_by_record : (n : ℕ) → (r ≡ Err (not-written.RoomTooSmall n)) ↔ ((length before < g.counts.words) × (n ≡ g.counts.words))
     room_by_record n =
         let named = room_refused g.counts.words (length before) n (granted g.counts.words) (λ z. omega arith) in (
           λ s. named.0 (sym (write_cnf_by_record (length before)) ∙ sym e.answered ∙ ap encoding.answer_of s),
-          λ h. (encoded_unique version ws before r (encodings.RoomTooSmall n) after _ e
+          λ h. (encoded_unique version ws before r (Err (not-written.RoomTooSmall n)) after _ e
               (record { answered = sym (write_cnf_by_record (length before) ∙ named.1 h); room_after = refl; numbered = tt })).0,
         )
 
-    pub written_by_record : (r ≡ encodings.Written g.counts) ↔ (g.counts.words ≤ length before)
+    pub written_by_record : (r ≡ Ok g.counts) ↔ (g.counts.words ≤ length before)
     written_by_record = (
       λ s. rw words_are (written_only version ws before e s).1,
-      λ fits. (cnf_written version ws before e formed (rw words_are at fits)).0 ∙ ap encodings.Written (sym c.counted),
+      λ fits. (cnf_written version ws before e formed (rw words_are at fits)).0 ∙ ap Ok (sym c.counted),
     )
 
   -- ════════ 6 and 12 of the judge of a problem's refutation ════════
@@ -185,32 +186,32 @@ module _ {version : ℕ} {ws : List ℕ} {g : ProblemRecord} (c : CheckedAs vers
               rw (le-leb g.counts.words room h.0) (first_failing_passed words_checks areas pass ∙ named.1 h.2),
         )
 
-  module _ {refutation room : List ℤ} {numbers clauses : List ℕ} {r : Refuted} {room' : List ℤ} {numbers' clauses' : List ℕ}
+  module _ {refutation room : List ℤ} {numbers clauses : List ℕ} {r : Result Unit Unrefuted} {room' : List ℤ} {numbers' clauses' : List ℕ}
       (j : JudgedAs version ws refutation room numbers clauses r room' numbers' clauses') where
     answered : refuted_answer r ≡ room_answer g.counts.words (length room) (after_6 refutation (length numbers) (length clauses))
     answered = j.answered ∙ judge_by_record refutation (length room) (length numbers) (length clauses)
 
-    pub judge_room_by_record : (n : ℕ) → (r ≡ judgements.RoomTooSmall n) ↔ ((length room < g.counts.words) × (n ≡ g.counts.words))
+    pub judge_room_by_record : (n : ℕ) → (r ≡ Err (unrefuted.Cnf (not-written.RoomTooSmall n))) ↔ ((length room < g.counts.words) × (n ≡ g.counts.words))
     judge_room_by_record n =
         let named = room_refused g.counts.words (length room) n _ (not_6 refutation (length numbers) (length clauses)) in (
           λ s. named.0 (sym answered ∙ ap refuted_answer s),
-          λ h. same_answer r (judgements.RoomTooSmall n) (answered ∙ named.1 h),
+          λ h. same_answer r (Err (unrefuted.Cnf (not-written.RoomTooSmall n))) (answered ∙ named.1 h),
         )
 
     pub area_by_record : (n : ℕ)
-        → (r ≡ judgements.AreaTooSmall n)
+        → (r ≡ Err (unrefuted.Refutation (not-refuted.AreaTooSmall n)))
         ↔ ((g.counts.words ≤ length room)
         × (first_failing (words_checks refutation) (granted 0) ≡ granted 0)
         × AreaShort (by_numbers refutation) (by_clauses refutation) (length numbers) (length clauses) n)
     area_by_record n =
         let named = area_refused refutation (length room) (length numbers) (length clauses) n in (
           λ s. named.0 (sym answered ∙ ap refuted_answer s),
-          λ h. same_answer r (judgements.AreaTooSmall n) (answered ∙ named.1 h),
+          λ h. same_answer r (Err (unrefuted.Refutation (not-refuted.AreaTooSmall n))) (answered ∙ named.1 h),
         )
 
 -- ════════ The header of the text ════════
 
-pub header_by_record : (bs : List ℕ) {g : ProblemRecord} → CheckedAs (job_version bs) (job_words bs) (Good g) → (job_answer bs).number ≡ 0
+pub header_by_record : (bs : List ℕ) {g : ProblemRecord} → CheckedAs (job_version bs) (job_words bs) (Ok g) → (job_answer bs).number ≡ 0
     → printed bs ≡ header_line g.counts.variables g.counts.clauses ++ each (cnf (job_problem bs)) clause_line
 unfolding cnf_text
 header_by_record bs c e = text_if_yes bs e ∙ rw (variables_are c, clauses_are c)

@@ -6,6 +6,7 @@ use mathlib.Core.{Path.◌≡◌, List.List, List.[], List.◌∷◌, List.◌++
 use mathlib.Core.Bool.{Bool, true, false, ◌&&◌, ◌||◌}
 use Prim.Native.Nat.{ℕ, suc, ◌+◌, ◌*◌, ◌-◌, ◌^◌, ◌≤◌, ◌<◌}
 use lib.{IntN.ℤ, IntN.pos, ListN.length, ListN.get_or, ListN.take}
+use Rattle.std.specs.Prelude.{Result, Ok, Err}
 use Rattle.answers.specs.Lists.{written, each, empty, joined}
 use Rattle.answers.specs.Limits.{variables_limit, search_limit, longest_text}
 use Rattle.answers.specs.Answers.{Answer, granted, first_failing, first_failing_part}
@@ -13,8 +14,8 @@ use Rattle.clauses.specs.Clauses.{Clause, Assignment, negated, size, clause_true
 use Rattle.clauses.specs.CnfWords.{clauses_of, cnf_checks}
 use Rattle.clauses.specs.Refutations.{Step, steps_of, refutation_checks, Lookup, SatisfiesNamed, both_signs, hints_conflict, step_accepted, judge_steps, numbers_area, clauses_area}
 use Rattle.clauses.specs.Refutable.{Refutation, WordsFit, AcceptedWords}
-use Rattle.refutation.specs.declared.RefutationAnswer.{RefutationAnswer}
-use Rattle.refutation.specs.declared.RefutationAnswer.TheVariants as cnf-judge
+use Rattle.refutation.specs.declared.NotRefuted.{NotRefuted}
+use Rattle.refutation.specs.declared.NotRefuted.TheVariants as not-refuted
 use Rattle.refutation.specs.Promise.{Judged}
 use Rattle.meaning.specs.Problem as problems
 use Rattle.meaning.specs.Problem.{Problem, problem, node}
@@ -38,28 +39,25 @@ use Rattle.pairing.specs.Refutable.{AcceptedRefutation}
 use Rattle.counts.specs.declared.Counts.{Counts}
 use Rattle.counts.specs.Promise.{counts_of}
 use Rattle.problem.specs.declared.ProblemRecord.{ProblemRecord}
-use Rattle.problem.specs.declared.Checked.{Checked}
-use Rattle.problem.specs.declared.Checked.TheVariants.{Good}
+use Rattle.problem.specs.declared.Refusal.{Refusal}
 use Rattle.problem.specs.Promise.{CheckedAs}
-use Rattle.encoder.specs.declared.Encoded.{Encoded}
-use Rattle.encoder.specs.declared.Encoded.TheVariants.{Written, RoomTooSmall}
+use Rattle.encoder.specs.declared.NotWritten.{NotWritten}
+use Rattle.encoder.specs.declared.NotWritten.TheVariants as not-written
 use Rattle.encoder.specs.Promise.{EncodedAs}
-use Rattle.witness.specs.declared.WitnessAnswer.{WitnessAnswer}
-use Rattle.witness.specs.declared.WitnessAnswer.TheVariants as witness-judge
+use Rattle.witness.specs.declared.NotWitness.{NotWitness}
 use Rattle.witness.specs.Promise.{answer_of}
-use Rattle.finder.specs.declared.Finding.{Finding}
-use Rattle.finder.specs.declared.Finding.TheVariants as finder
+use Rattle.finder.specs.declared.NotFound.{NotFound}
+use Rattle.finder.specs.declared.NotFound.TheVariants as not-found
 use Rattle.finder.specs.Promise.{FoundAs, Searched}
-use Rattle.job_file.specs.declared.texts.Printed.{Printed}
 use Rattle.job_file.specs.Promise.{Prints}
 use Rattle.text.specs.Readings.{found}
-use Rattle.aiger.specs.declared.Outcome.{Outcome}
+use Rattle.aiger.specs.declared.NotDone.{NotDone}
 use Rattle.aiger.specs.Circuits.{check_circuit}
 use Rattle.aiger.specs.Texts.{circuit_text, circuit_read}
 use Rattle.aiger.specs.Calls.{words_found}
 use Rattle.aiger.specs.Promise as texts
-use Rattle.checker.specs.declared.Refuted.{Refuted}
-use Rattle.checker.specs.declared.Refuted.TheVariants as problem-judge
+use Rattle.checker.specs.declared.Unrefuted.{Unrefuted}
+use Rattle.checker.specs.declared.Unrefuted.TheVariants as unrefuted
 use Rattle.checker.specs.Refutation.{JudgedAs}
 
 -- ════════ Demand 1 ════════
@@ -67,79 +65,79 @@ use Rattle.checker.specs.Refutation.{JudgedAs}
 -- "Any words, of any length, get an answer, and the call ends": no public function has a `requires`, and each is proved to return. "Bad
 -- input gets the number and place of the table, by the fixed order of checks", and "lent buffers are left as the table says": each call's
 -- promise gives its answer and every lent buffer after it, so two outcomes that meet it are equal. The check of a problem:
-pub checked_unique : (version : ℕ) (ws : List ℕ) (r r' : Checked) → CheckedAs version ws r → CheckedAs version ws r' → r ≡ r'
+pub checked_unique : (version : ℕ) (ws : List ℕ) (r r' : Result ProblemRecord Refusal) → CheckedAs version ws r → CheckedAs version ws r' → r ≡ r'
 checked_unique = Rattle.problem.proofs.Unique.checked_unique
 
 -- The CNF writer.
-pub encoded_unique : (version : ℕ) (ws : List ℕ) (before : List ℤ) (r r' : Encoded) (after after' : List ℤ)
+pub encoded_unique : (version : ℕ) (ws : List ℕ) (before : List ℤ) (r r' : Result Counts NotWritten) (after after' : List ℤ)
     → EncodedAs version ws before r after → EncodedAs version ws before r' after' → (r ≡ r') × (after ≡ after')
 encoded_unique = Rattle.encoder.proofs.Unique.encoded_unique
 
 -- The witness judge, which changes no buffer.
-pub judgement_unique : (version : ℕ) (ws bs : List ℕ) (r r' : WitnessAnswer)
+pub judgement_unique : (version : ℕ) (ws bs : List ℕ) (r r' : Result Unit NotWitness)
     → answer_of r ≡ judge_witness version ws bs → answer_of r' ≡ judge_witness version ws bs → r ≡ r'
 judgement_unique = Rattle.witness.proofs.Unique.judgement_unique
 
 -- The finder, with the witness room.
-pub found_unique : {version : ℕ} {ws before : List ℕ} {r r' : Finding} {after after' : List ℕ}
+pub found_unique : {version : ℕ} {ws before : List ℕ} {r r' : Result ℕ NotFound} {after after' : List ℕ}
     → FoundAs version ws before r after → FoundAs version ws before r' after' → (r ≡ r') × (after ≡ after')
 found_unique = Rattle.finder.proofs.Unique.found_unique
 
 -- The refutation judge for any CNF, of v variables, with both work areas.
-pub judged_unique : {v : ℕ} {cnf refutation : List ℤ} {numbers clauses : List ℕ} {r r' : RefutationAnswer} {n n' c c' : List ℕ}
+pub judged_unique : {v : ℕ} {cnf refutation : List ℤ} {numbers clauses : List ℕ} {r r' : Result Unit NotRefuted} {n n' c c' : List ℕ}
     → Judged v cnf refutation numbers clauses r n c → Judged v cnf refutation numbers clauses r' n' c' → (r ≡ r') × (n ≡ n') × (c ≡ c')
 judged_unique = Rattle.refutation.proofs.Unique.judged_unique
 
 -- The judge of a problem's refutation, with the CNF room and both work areas.
 pub refuted_unique : {version : ℕ} {ws : List ℕ} {refutation room : List ℤ} {numbers clauses : List ℕ}
-    {r r' : Refuted} {room₁ room₂ : List ℤ} {n n' c c' : List ℕ}
+    {r r' : Result Unit Unrefuted} {room₁ room₂ : List ℤ} {n n' c c' : List ℕ}
     → JudgedAs version ws refutation room numbers clauses r room₁ n c → JudgedAs version ws refutation room numbers clauses r' room₂ n' c'
     → (r ≡ r') × (room₁ ≡ room₂) × (n ≡ n') × (c ≡ c')
 refuted_unique = Rattle.checker.proofs.RefutedUnique.refuted_unique
 
 -- What the program prints for a job: `printed` of its bytes where it fits.
-pub job_printed : (bs out : List ℕ) {r r' : Printed} {p p' : List ℕ} → Prints (printed bs) out r p → Prints (printed bs) out r' p' → (r ≡ r') × (p ≡ p')
+pub job_printed : (bs out : List ℕ) {r r' : Result ℕ ℕ} {p p' : List ℕ} → Prints (printed bs) out r p → Prints (printed bs) out r' p' → (r ≡ r') × (p ≡ p')
 job_printed bs = Rattle.job_file.proofs.Unique.printed_unique (printed bs)
 
 -- Words are well formed where `check_problem` says yes; of the call, where it answers a record, whose outline by its promise is theirs, and whose numbers are those of their CNF.
-pub check_good : (version : ℕ) (ws : List ℕ) {r : Checked} → CheckedAs version ws r → ((g : ProblemRecord) × (r ≡ Good g)) ↔ WellFormed version ws
+pub check_good : (version : ℕ) (ws : List ℕ) {r : Result ProblemRecord Refusal} → CheckedAs version ws r → ((g : ProblemRecord) × (r ≡ Ok g)) ↔ WellFormed version ws
 check_good = Rattle.demands.proofs.CallsMean.check_good
 
 -- ════════ Demand 2 ════════
 
 -- "The CNF is word for word the one laid down": of well-formed words, where there is room; what stood past it stays.
-pub cnf_written : (version : ℕ) (ws : List ℕ) (before : List ℤ) {r : Encoded} {after : List ℤ} → EncodedAs version ws before r after
+pub cnf_written : (version : ℕ) (ws : List ℕ) (before : List ℤ) {r : Result Counts NotWritten} {after : List ℤ} → EncodedAs version ws before r after
     → WellFormed version ws → length (cnf_words (problem version ws)) ≤ length before
-    → (r ≡ Written (counts_of (problem version ws))) × (after ≡ written (cnf_words (problem version ws)) before)
+    → (r ≡ Ok (counts_of (problem version ws))) × (after ≡ written (cnf_words (problem version ws)) before)
 cnf_written = Rattle.encoder.proofs.WrittenCnf.cnf_written
 
 -- It is written of no other words, and into no smaller room.
-pub written_only : (version : ℕ) (ws : List ℕ) (before : List ℤ) {r : Encoded} {after : List ℤ} → EncodedAs version ws before r after
-    → {n : Counts} → r ≡ Written n → WellFormed version ws × (length (cnf_words (problem version ws)) ≤ length before)
+pub written_only : (version : ℕ) (ws : List ℕ) (before : List ℤ) {r : Result Counts NotWritten} {after : List ℤ} → EncodedAs version ws before r after
+    → {n : Counts} → r ≡ Ok n → WellFormed version ws × (length (cnf_words (problem version ws)) ≤ length before)
 written_only = Rattle.encoder.proofs.WrittenCnf.written_only
 
 -- Its numbers of variables, clauses and words, which the record of the check has.
-pub cnf_counted : (version : ℕ) (ws : List ℕ) {r : Checked} → CheckedAs version ws r
-    → ((g : ProblemRecord) × (r ≡ Good g) × (g.counts ≡ record { variables = variables (problem version ws); clauses = length (cnf (problem version ws)); words = length (cnf_words (problem version ws)) }))
+pub cnf_counted : (version : ℕ) (ws : List ℕ) {r : Result ProblemRecord Refusal} → CheckedAs version ws r
+    → ((g : ProblemRecord) × (r ≡ Ok g) × (g.counts ≡ record { variables = variables (problem version ws); clauses = length (cnf (problem version ws)); words = length (cnf_words (problem version ws)) }))
     ↔ WellFormed version ws
 cnf_counted = Rattle.demands.proofs.CallsMean.cnf_counted
 
 -- "The text header, refusal 6 and refusal 12 rest on them": by the numbers of the record, when the CNF writer answers 6, with what place, and when yes.
-module _ {version : ℕ} {ws : List ℕ} {g : ProblemRecord} (good : CheckedAs version ws (Good g)) where
-  pub room_by_record : {before after : List ℤ} {r : Encoded} → EncodedAs version ws before r after
-      → (n : ℕ) → (r ≡ RoomTooSmall n) ↔ ((length before < g.counts.words) × (n ≡ g.counts.words))
+module _ {version : ℕ} {ws : List ℕ} {g : ProblemRecord} (good : CheckedAs version ws (Ok g)) where
+  pub room_by_record : {before after : List ℤ} {r : Result Counts NotWritten} → EncodedAs version ws before r after
+      → (n : ℕ) → (r ≡ Err (not-written.RoomTooSmall n)) ↔ ((length before < g.counts.words) × (n ≡ g.counts.words))
   room_by_record = Rattle.demands.proofs.ByRecord.room_by_record good
 
-  pub written_by_record : {before after : List ℤ} {r : Encoded} → EncodedAs version ws before r after → (r ≡ Written g.counts) ↔ (g.counts.words ≤ length before)
+  pub written_by_record : {before after : List ℤ} {r : Result Counts NotWritten} → EncodedAs version ws before r after → (r ≡ Ok g.counts) ↔ (g.counts.words ≤ length before)
   written_by_record = Rattle.demands.proofs.ByRecord.written_by_record good
 
   -- The judge of a problem's refutation: 6, then 12 where 6 and 11 pass, of the area by numbers before the area by clauses.
-  module _ {refutation room : List ℤ} {numbers clauses : List ℕ} {r : Refuted} {room' : List ℤ} {numbers' clauses' : List ℕ}
+  module _ {refutation room : List ℤ} {numbers clauses : List ℕ} {r : Result Unit Unrefuted} {room' : List ℤ} {numbers' clauses' : List ℕ}
       (judged : JudgedAs version ws refutation room numbers clauses r room' numbers' clauses') (n : ℕ) where
-    pub judge_room_by_record : (r ≡ problem-judge.RoomTooSmall n) ↔ ((length room < g.counts.words) × (n ≡ g.counts.words))
+    pub judge_room_by_record : (r ≡ Err (unrefuted.Cnf (not-written.RoomTooSmall n))) ↔ ((length room < g.counts.words) × (n ≡ g.counts.words))
     judge_room_by_record = Rattle.demands.proofs.ByRecord.judge_room_by_record good judged n
 
-    pub area_by_record : (r ≡ problem-judge.AreaTooSmall n)
+    pub area_by_record : (r ≡ Err (unrefuted.Refutation (not-refuted.AreaTooSmall n)))
         ↔ ((g.counts.words ≤ length room) × (first_failing (refutation_checks g.counts.variables g.counts.clauses refutation) (granted 0) ≡ granted 0)
         × (((length numbers < g.counts.variables + 1) × (n ≡ g.counts.variables + 1))
         ⊎ ((g.counts.variables + 1 ≤ length numbers)
@@ -147,7 +145,7 @@ module _ {version : ℕ} {ws : List ℕ} {g : ProblemRecord} (good : CheckedAs v
     area_by_record = Rattle.demands.proofs.ByRecord.area_by_record good judged n
 
 -- What the program prints at yes: a header with the record's variables and clauses, then the clauses, one a line.
-pub header_by_record : (bs : List ℕ) {g : ProblemRecord} → CheckedAs (job_version bs) (job_words bs) (Good g) → (job_answer bs).number ≡ 0
+pub header_by_record : (bs : List ℕ) {g : ProblemRecord} → CheckedAs (job_version bs) (job_words bs) (Ok g) → (job_answer bs).number ≡ 0
     → printed bs ≡ header_line g.counts.variables g.counts.clauses ++ each (cnf (job_problem bs)) clause_line
 header_by_record = Rattle.demands.proofs.ByRecord.header_by_record
 
@@ -173,8 +171,8 @@ accepted_is_witness = Rattle.pairing.proofs.Witnesses.accepted_is_witness
 pub judged_is_witness : (version : ℕ) (ws bs : List ℕ) → (judge_witness version ws bs ≡ granted 0) ↔ (WellFormed version ws × Witness (problem version ws) bs)
 judged_is_witness = Rattle.pairing.proofs.Judged.judged_is_witness
 
-pub accepted_run : (version : ℕ) (ws bs : List ℕ) {r : WitnessAnswer} → answer_of r ≡ judge_witness version ws bs
-    → (r ≡ witness-judge.Yes) ↔ (WellFormed version ws × Witness (problem version ws) bs)
+pub accepted_run : (version : ℕ) (ws bs : List ℕ) {r : Result Unit NotWitness} → answer_of r ≡ judge_witness version ws bs
+    → (r ≡ Ok tt) ↔ (WellFormed version ws × Witness (problem version ws) bs)
 accepted_run = Rattle.demands.proofs.CallsMean.accepted_run
 
 -- "An accepted lasso makes the formula true on its endless path", which is a run of the circuit that meets the constraints at every position; of the
@@ -183,7 +181,7 @@ pub lasso_true : (p : Problem) (bs : List ℕ) (l : ℕ) → judge_bytes p bs �
     → EndlessRun p (lasso_path p bs l) × Holds p (formula p) (lasso_path p bs l) 0
 lasso_true = Rattle.pairing.proofs.Endless.lasso_true
 
-pub accepted_lasso : (version : ℕ) (ws bs : List ℕ) {r : WitnessAnswer} → answer_of r ≡ judge_witness version ws bs → r ≡ witness-judge.Yes
+pub accepted_lasso : (version : ℕ) (ws bs : List ℕ) {r : Result Unit NotWitness} → answer_of r ≡ judge_witness version ws bs → r ≡ Ok tt
     → (l : ℕ) → shape bs ≡ lasso l
     → EndlessRun (problem version ws) (lasso_path (problem version ws) bs l) × Holds (problem version ws) (formula (problem version ws)) (lasso_path (problem version ws) bs l) 0
 accepted_lasso = Rattle.demands.proofs.CallsMean.accepted_lasso
@@ -200,7 +198,7 @@ pub prefix_true : (p : Problem) (bs : List ℕ) → judge_bytes p bs ≡ granted
     → ((t : ℕ) → t ≤ p.bound → (path t).inputs ≡ inputs_at p bs t) → Holds p (formula p) path 0
 prefix_true = Rattle.pairing.proofs.Endless.prefix_true
 
-pub accepted_prefix : (version : ℕ) (ws bs : List ℕ) {r : WitnessAnswer} → answer_of r ≡ judge_witness version ws bs → r ≡ witness-judge.Yes
+pub accepted_prefix : (version : ℕ) (ws bs : List ℕ) {r : Result Unit NotWitness} → answer_of r ≡ judge_witness version ws bs → r ≡ Ok tt
     → shape bs ≡ prefix → (path : ℕ → Position) → EndlessRun (problem version ws) path → (path 0).latches ≡ first_latches (problem version ws) bs
     → ((t : ℕ) → t ≤ (problem version ws).bound → (path t).inputs ≡ inputs_at (problem version ws) bs t) → Holds (problem version ws) (formula (problem version ws)) path 0
 accepted_prefix = Rattle.demands.proofs.CallsMean.accepted_prefix
@@ -285,8 +283,8 @@ never_a_hint = Rattle.clauses.proofs.NeverAHint.never_a_hint
 pub refuted : (cs : List Clause) (ss : List Step) → judge_steps cs ss ≡ granted 0 → (a : Assignment) → Satisfies a cs → ⊥
 refuted = Rattle.clauses.proofs.Sound.refuted
 
-pub judged_refuted : {v : ℕ} {cnf refutation : List ℤ} {numbers clauses : List ℕ} {r : RefutationAnswer} {numbers' clauses' : List ℕ}
-    → Judged v cnf refutation numbers clauses r numbers' clauses' → r ≡ cnf-judge.Yes → (a : Assignment) → Satisfies a (clauses_of cnf) → ⊥
+pub judged_refuted : {v : ℕ} {cnf refutation : List ℤ} {numbers clauses : List ℕ} {r : Result Unit NotRefuted} {numbers' clauses' : List ℕ}
+    → Judged v cnf refutation numbers clauses r numbers' clauses' → r ≡ Ok tt → (a : Assignment) → Satisfies a (clauses_of cnf) → ⊥
 judged_refuted = Rattle.refutation.proofs.Refuted.judged_refuted
 
 -- Of a problem's CNF "a refutation excludes lassos at all bounds to k but prefixes at k only", and where there are no constraints "every witness at every
@@ -296,8 +294,8 @@ pub problem_refuted : (version : ℕ) (ws : List ℕ) (refutation : List ℤ) (r
 problem_refuted = Rattle.pairing.proofs.AtOrBelow.problem_refuted
 
 pub accepted_refutation : {version : ℕ} {ws : List ℕ} {refutation room : List ℤ} {numbers clauses : List ℕ}
-    {r : Refuted} {room' : List ℤ} {numbers' clauses' : List ℕ}
-    → JudgedAs version ws refutation room numbers clauses r room' numbers' clauses' → r ≡ problem-judge.Yes
+    {r : Result Unit Unrefuted} {room' : List ℤ} {numbers' clauses' : List ℕ}
+    → JudgedAs version ws refutation room numbers clauses r room' numbers' clauses' → r ≡ Ok tt
     → WellFormed version ws × Excluded (problem version ws)
 accepted_refutation = Rattle.demands.proofs.CallsMean.accepted_refutation
 
@@ -313,18 +311,18 @@ problem_refutable version ws formed = Rattle.pairing.proofs.AtOrBelow.problem_re
 pub refutable_judged : (v : ℕ) (cnf : List ℤ) → first_failing (cnf_checks v cnf) (granted 0) ≡ granted 0
     → ((a : Assignment) → length a ≡ v → Satisfies a (clauses_of cnf) → ⊥)
     → (a : AcceptedWords v cnf)
-    × ((numbers clauses : List ℕ) (r : RefutationAnswer) (numbers' clauses' : List ℕ)
+    × ((numbers clauses : List ℕ) (r : Result Unit NotRefuted) (numbers' clauses' : List ℕ)
     → numbers_area v ≤ length numbers → clauses_area (clauses_of cnf) (steps_of a.words) ≤ length clauses
-    → Judged v cnf a.words numbers clauses r numbers' clauses' → r ≡ cnf-judge.Yes)
+    → Judged v cnf a.words numbers clauses r numbers' clauses' → r ≡ Ok tt)
 refutable_judged = Rattle.refutation.proofs.Refutable.refutable_judged
 
 -- and the judge of a problem's refutation.
 pub refutable_call : (version : ℕ) (ws : List ℕ) → WellFormed version ws → ((bs : List ℕ) → Witness (problem version ws) bs → ⊥)
     → (a : AcceptedRefutation version ws)
-    × ((room : List ℤ) (numbers clauses : List ℕ) (r : Refuted) (room' : List ℤ) (numbers' clauses' : List ℕ)
+    × ((room : List ℤ) (numbers clauses : List ℕ) (r : Result Unit Unrefuted) (room' : List ℤ) (numbers' clauses' : List ℕ)
     → length (cnf_words (problem version ws)) ≤ length room → numbers_area (variables (problem version ws)) ≤ length numbers
     → clauses_area (cnf (problem version ws)) (steps_of a.words) ≤ length clauses
-    → JudgedAs version ws a.words room numbers clauses r room' numbers' clauses' → r ≡ problem-judge.Yes)
+    → JudgedAs version ws a.words room numbers clauses r room' numbers' clauses' → r ≡ Ok tt)
 refutable_call = Rattle.demands.proofs.Refutable.refutable_call
 
 -- A call can be handed them where each fits a word of 32 bits. By `WordsFit`, which both records hold, it does where V is below 2^31 and so are the
@@ -337,51 +335,51 @@ words_below = Rattle.clauses.proofs.WordSizes.words_below
 pub variables_fit : (version : ℕ) (ws : List ℕ) → WellFormed version ws → variables (problem version ws) ≤ variables_limit
 variables_fit version ws formed = Rattle.meaning.proofs.Ranges.variables_fit (problem version ws) (proper_if_well_formed version ws formed)
 
-pub never_16 : (version : ℕ) (ws : List ℕ) → WellFormed version ws → {refutation : List ℤ} {numbers clauses : List ℕ} {r : RefutationAnswer} {numbers' clauses' : List ℕ}
-    → Judged (variables (problem version ws)) (cnf_words (problem version ws)) refutation numbers clauses r numbers' clauses' → (i : ℕ) → r ≡ cnf-judge.BadCnf i → ⊥
+pub never_16 : (version : ℕ) (ws : List ℕ) → WellFormed version ws → {refutation : List ℤ} {numbers clauses : List ℕ} {r : Result Unit NotRefuted} {numbers' clauses' : List ℕ}
+    → Judged (variables (problem version ws)) (cnf_words (problem version ws)) refutation numbers clauses r numbers' clauses' → (i : ℕ) → r ≡ Err (not-refuted.BadCnf i) → ⊥
 never_16 version ws formed = Rattle.demands.proofs.CallsMean.never_16 (problem version ws) (proper_if_well_formed version ws formed)
 
 -- ════════ Document 02, Q-3: the finder ════════
 
-module _ (version : ℕ) (ws room : List ℕ) {r : Finding} {after : List ℕ} (call : FoundAs version ws room r after) where
+module _ (version : ℕ) (ws room : List ℕ) {r : Result ℕ NotFound} {after : List ℕ} (call : FoundAs version ws room r after) where
   -- "list the first witness in byte order (0, place its length)": what the room then holds is a witness, and each witness is at or after it.
-  pub found_first : {n : ℕ} → r ≡ finder.Found n
+  pub found_first : {n : ℕ} → r ≡ Ok n
       → WellFormed version ws × Searched (problem version ws) (length room) × (n ≡ witness_length (problem version ws))
       × ((bs : List ℕ) × (after ≡ written bs room) × Witness (problem version ws) bs × ((cs : List ℕ) → Witness (problem version ws) cs → at_or_before bs cs ≡ true))
   found_first = Rattle.finder.proofs.Means.found_first version ws room call
 
   -- Where there is a witness one is found, given that 1 to 5, 17 and 18 pass.
   pub found_if_any : WellFormed version ws → Searched (problem version ws) (length room)
-      → (bs : List ℕ) → Witness (problem version ws) bs → r ≡ finder.Found (witness_length (problem version ws))
+      → (bs : List ℕ) → Witness (problem version ws) bs → r ≡ Ok (witness_length (problem version ws))
   found_if_any = Rattle.finder.proofs.Means.found_if_any version ws room call
 
   -- "Its none is proved equal to the CNF can't be satisfied": given the same.
   pub none_unsatisfiable : WellFormed version ws → Searched (problem version ws) (length room)
-      → (r ≡ finder.NoneExists) ↔ (((a : Assignment) × Model (problem version ws) a) → ⊥)
+      → (r ≡ Err not-found.NoneExists) ↔ (((a : Assignment) × Model (problem version ws) a) → ⊥)
   none_unsatisfiable = Rattle.finder.proofs.Means.none_unsatisfiable version ws room call
 
   -- So it excludes what a refutation does.
-  pub none_excludes : r ≡ finder.NoneExists → WellFormed version ws × Searched (problem version ws) (length room)
+  pub none_excludes : r ≡ Err not-found.NoneExists → WellFormed version ws × Searched (problem version ws) (length room)
       × Excluded (problem version ws)
   none_excludes = Rattle.finder.proofs.Means.none_excludes version ws room call
 
   -- "otherwise, after 1 to 5, refusal 17, place that sum"; "room too small is refusal 18, place the bytes needed, after 17".
-  pub refused_17 : (n : ℕ) → (r ≡ finder.TooMuchOpen n)
+  pub refused_17 : (n : ℕ) → (r ≡ Err (not-found.TooMuchOpen n))
       ↔ (WellFormed version ws × (search_limit < open_bytes (problem version ws)) × (n ≡ open_bytes (problem version ws)))
   refused_17 = Rattle.finder.proofs.Means.too_much_open_if version ws room call
 
-  pub refused_18 : (n : ℕ) → (r ≡ finder.RoomTooSmall n)
+  pub refused_18 : (n : ℕ) → (r ≡ Err (not-found.RoomTooSmall n))
       ↔ (WellFormed version ws × (open_bytes (problem version ws) ≤ search_limit) × (length room < witness_length (problem version ws)) × (n ≡ witness_length (problem version ws)))
   refused_18 = Rattle.finder.proofs.Means.room_too_small_if version ws room call
 
 -- ════════ Document 02, Q-5: circuits in AIGER text ════════
 
 -- The reader, with the word room, and the writer, with the text room: one outcome each.
-pub read_unique : {text before : List ℕ} {r r' : Outcome} {after after' : List ℕ}
+pub read_unique : {text before : List ℕ} {r r' : Result ℕ NotDone} {after after' : List ℕ}
     → texts.ReadAs text before r after → texts.ReadAs text before r' after' → (r ≡ r') × (after ≡ after')
 read_unique = Rattle.aiger.proofs.Unique.read_unique
 
-pub written_unique : {ws before : List ℕ} {r r' : Outcome} {after after' : List ℕ}
+pub written_unique : {ws before : List ℕ} {r r' : Result ℕ NotDone} {after after' : List ℕ}
     → texts.WrittenAs ws before r after → texts.WrittenAs ws before r' after' → (r ≡ r') × (after ≡ after')
 written_unique = Rattle.aiger.proofs.Unique.written_unique
 
@@ -389,7 +387,7 @@ written_unique = Rattle.aiger.proofs.Unique.written_unique
 pub written_read : (ws : List ℕ) → check_circuit ws ≡ granted 0 → (rest : List ℕ) → circuit_read (circuit_text ws ++ rest) ≡ found ws (length (circuit_text ws)) rest
 written_read = Rattle.aiger.proofs.RoundTrips.written_read
 
-pub call_written_read : {ws out out' room room' : List ℕ} {r q : Outcome} → texts.WrittenAs ws out r out' → (texts.answer_of r).number ≡ 0
+pub call_written_read : {ws out out' room room' : List ℕ} {r q : Result ℕ NotDone} → texts.WrittenAs ws out r out' → (texts.answer_of r).number ≡ 0
     → texts.ReadAs (take (texts.answer_of r).place out') room q room' → length ws ≤ length room → (texts.answer_of q ≡ granted (length ws)) × (room' ≡ written ws room)
 call_written_read w at_0 = Rattle.aiger.proofs.RoundTrips.call_written_read w at_0
 
@@ -404,7 +402,7 @@ pub one_normal_text : (text text' ws ws' : List ℕ) (p p' : ℕ) (left left' : 
 one_normal_text = Rattle.aiger.proofs.RoundTrips.one_normal_text
 
 -- Of the calls: what was read, written into a room that has the bytes.
-pub call_read_written : {text room room' out out' : List ℕ} {q r : Outcome} → texts.ReadAs text room q room' → (texts.answer_of q).number ≡ 0
+pub call_read_written : {text room room' out out' : List ℕ} {q r : Result ℕ NotDone} → texts.ReadAs text room q room' → (texts.answer_of q).number ≡ 0
     → texts.WrittenAs (take (texts.answer_of q).place room') out r out' → length (circuit_text (words_found (circuit_read text))) ≤ length out
     → (texts.answer_of r ≡ granted (length (circuit_text (words_found (circuit_read text))))) × (out' ≡ written (circuit_text (words_found (circuit_read text))) out)
 call_read_written p at_0 = Rattle.aiger.proofs.RoundTrips.call_read_written p at_0
@@ -414,7 +412,7 @@ module _ (text ws : List ℕ) (p : ℕ) (left : List ℕ) (e : circuit_read text
   pub unread : (text ≡ take p text ++ left) × ((rest : List ℕ) → circuit_read (take p text ++ rest) ≡ found ws p rest)
   unread = Rattle.aiger.proofs.Unread.unread text ws p left e
 
-  pub call_unread : (rest room after : List ℕ) (r : Outcome) → length text ≤ longest_text → length (take p text ++ rest) ≤ longest_text
+  pub call_unread : (rest room after : List ℕ) (r : Result ℕ NotDone) → length text ≤ longest_text → length (take p text ++ rest) ≤ longest_text
       → texts.ReadAs text room r after → texts.ReadAs (take p text ++ rest) room r after
   call_unread = Rattle.aiger.proofs.RoundTrips.call_unread text ws p left e
 

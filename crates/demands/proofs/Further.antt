@@ -5,29 +5,29 @@ use mathlib.Core.{Path.◌≡◌, List.List, Logic.◌↔◌, Logic.◌≢◌}
 use mathlib.Core.Bool.{true, false}
 use Prim.Native.Nat.{ℕ, ◌≤◌, ◌<◌, suc, ◌+◌, ◌*◌}
 use lib.{IntN.ℤ, ListN.length, ListN.take, ListN.replicate}
+use Rattle.std.specs.Prelude.{Result, Ok}
 use Rattle.clauses.specs.CnfWords.{clauses_of}
 use Rattle.clauses.specs.Refutations.{steps_of, judged, numbers_area, clauses_area, zeros, refutation_checks}
-use Rattle.refutation.specs.declared.RefutationAnswer.{RefutationAnswer}
+use Rattle.refutation.specs.declared.NotRefuted.{NotRefuted}
 use Rattle.refutation.specs.Promise.{answer_of as refutation_answer, Judged}
 use Rattle.meaning.specs.Problem.{problem, outline, Problem, latch}
 use Rattle.meaning.specs.Witnesses.{witness_length, Witness}
 use Rattle.meaning.specs.Cnf.{cnf, cnf_words, variables}
 use Rattle.meaning.specs.Calls.{WellFormed}
+use Rattle.counts.specs.declared.Counts.{Counts}
 use Rattle.problem.specs.declared.ProblemRecord.{ProblemRecord}
-use Rattle.problem.specs.declared.Checked.TheVariants.{Good}
 use Rattle.problem.specs.Promise.{outline_of, CheckedAs}
-use Rattle.encoder.specs.declared.Encoded.{Encoded}
+use Rattle.encoder.specs.declared.NotWritten.{NotWritten}
 use Rattle.encoder.specs.Promise.{answer_of as encoded_answer, EncodedAs}
-use Rattle.finder.specs.declared.Finding.{Finding}
+use Rattle.finder.specs.declared.NotFound.{NotFound}
 use Rattle.finder.specs.Promise.{answer_of as finding_answer, FoundAs}
-use Rattle.job_file.specs.declared.texts.Printed.{Printed}
 use Rattle.job_file.specs.JobFile.{printed}
 use Rattle.job_file.specs.Promise.{Prints}
-use Rattle.aiger.specs.declared.Outcome.{Outcome}
+use Rattle.aiger.specs.declared.NotDone.{NotDone}
 use Rattle.aiger.specs.Texts.{circuit_text, circuit_read}
 use Rattle.aiger.specs.Calls.{words_found}
 use Rattle.aiger.specs.Promise.{answer_of as circuit_answer, ReadAs, WrittenAs}
-use Rattle.checker.specs.declared.Refuted.{Refuted}
+use Rattle.checker.specs.declared.Unrefuted.{Unrefuted}
 use Rattle.checker.specs.Refutation.{refuted_answer, JudgedAs}
 use Rattle.demands.specs.Buffers.{KeptPast}
 use Rattle.answers.specs.Limits.{constraints_limit}
@@ -38,12 +38,11 @@ use Rattle.meaning.specs.Bounded.{prefix_value}
 use Rattle.meaning.specs.Cases.{AtAllLimits, constrained_limit_words}
 use Rattle.job_file.specs.Text.{text_limit}
 use Rattle.clauses.specs.RightSteps.{RightSteps}
-use Rattle.checker.specs.declared.Refuted.TheVariants as problem-judge
 
 -- ════════ The check ════════
 
 -- The outline of the check's record is that of the words.
-pub record_outlined : {version : ℕ} {ws : List ℕ} {g : ProblemRecord} → CheckedAs version ws (Good g) → outline_of g.outline ≡ outline version ws
+pub record_outlined : {version : ℕ} {ws : List ℕ} {g : ProblemRecord} → CheckedAs version ws (Ok g) → outline_of g.outline ≡ outline version ws
 record_outlined = Rattle.demands.proofs.CallsMean.record_outlined
 
 -- ════════ Lent buffers ════════
@@ -52,19 +51,19 @@ record_outlined = Rattle.demands.proofs.CallsMean.record_outlined
 -- to write.
 
 -- The CNF writer: unchanged at a refusal, the CNF at a yes, and past its words never changed.
-pub encoded_buffers : {version : ℕ} {ws : List ℕ} {before : List ℤ} {r : Encoded} {after : List ℤ} → EncodedAs version ws before r after
+pub encoded_buffers : {version : ℕ} {ws : List ℕ} {before : List ℤ} {r : Result Counts NotWritten} {after : List ℤ} → EncodedAs version ws before r after
     → ((encoded_answer r).number ≢ 0 → after ≡ before)
     × ((encoded_answer r).number ≡ 0 → take (length (cnf_words (problem version ws))) after ≡ cnf_words (problem version ws))
     × KeptPast (length (cnf_words (problem version ws))) before after
 encoded_buffers = Rattle.demands.proofs.Buffers.encoded_buffers
 
 -- The finder; what the room holds at a yes is `found_first` of Demands.
-pub found_buffers : {version : ℕ} {ws before : List ℕ} {r : Finding} {after : List ℕ} → FoundAs version ws before r after
+pub found_buffers : {version : ℕ} {ws before : List ℕ} {r : Result ℕ NotFound} {after : List ℕ} → FoundAs version ws before r after
     → ((finding_answer r).number ≢ 0 → after ≡ before) × KeptPast (witness_length (problem version ws)) before after
 found_buffers = Rattle.demands.proofs.Buffers.found_buffers
 
 -- The refutation judge for any CNF: at 0, 13 and 14 "all the needed work words are 0", at every other answer both areas are unchanged.
-pub judged_buffers : {v : ℕ} {bare refutation : List ℤ} {numbers clauses : List ℕ} {r : RefutationAnswer} {numbers' clauses' : List ℕ}
+pub judged_buffers : {v : ℕ} {bare refutation : List ℤ} {numbers clauses : List ℕ} {r : Result Unit NotRefuted} {numbers' clauses' : List ℕ}
     → Judged v bare refutation numbers clauses r numbers' clauses'
     → (judged (refutation_answer r) ≡ false → (numbers' ≡ numbers) × (clauses' ≡ clauses))
     × (judged (refutation_answer r) ≡ true
@@ -76,7 +75,7 @@ judged_buffers = Rattle.demands.proofs.Buffers.judged_buffers
 
 -- The judge of a problem's refutation: the same, and at 0, 13 and 14 "the CNF room holds the CNF".
 pub problem_judged_buffers : {version : ℕ} {ws : List ℕ} {refutation room : List ℤ} {numbers clauses : List ℕ}
-    {r : Refuted} {room' : List ℤ} {numbers' clauses' : List ℕ}
+    {r : Result Unit Unrefuted} {room' : List ℤ} {numbers' clauses' : List ℕ}
     → JudgedAs version ws refutation room numbers clauses r room' numbers' clauses'
     → (judged (refuted_answer r) ≡ false → (room' ≡ room) × (numbers' ≡ numbers) × (clauses' ≡ clauses))
     × (judged (refuted_answer r) ≡ true
@@ -89,20 +88,20 @@ pub problem_judged_buffers : {version : ℕ} {ws : List ℕ} {refutation room : 
 problem_judged_buffers = Rattle.demands.proofs.Buffers.problem_judged_buffers
 
 -- The reader of a circuit's text, and its writer.
-pub read_buffers : {text before : List ℕ} {r : Outcome} {after : List ℕ} → ReadAs text before r after
+pub read_buffers : {text before : List ℕ} {r : Result ℕ NotDone} {after : List ℕ} → ReadAs text before r after
     → ((circuit_answer r).number ≢ 0 → after ≡ before)
     × ((circuit_answer r).number ≡ 0 → take (length (words_found (circuit_read text))) after ≡ words_found (circuit_read text))
     × KeptPast (length (words_found (circuit_read text))) before after
 read_buffers = Rattle.demands.proofs.Buffers.read_buffers
 
-pub written_buffers : {ws before : List ℕ} {r : Outcome} {after : List ℕ} → WrittenAs ws before r after
+pub written_buffers : {ws before : List ℕ} {r : Result ℕ NotDone} {after : List ℕ} → WrittenAs ws before r after
     → ((circuit_answer r).number ≢ 0 → after ≡ before)
     × ((circuit_answer r).number ≡ 0 → take (length (circuit_text ws)) after ≡ circuit_text ws)
     × KeptPast (length (circuit_text ws)) before after
 written_buffers = Rattle.demands.proofs.Buffers.written_buffers
 
 -- What is printed: the text where it fits, else nothing.
-pub printed_buffers : {text out : List ℕ} {r : Printed} {out' : List ℕ} → Prints text out r out'
+pub printed_buffers : {text out : List ℕ} {r : Result ℕ ℕ} {out' : List ℕ} → Prints text out r out'
     → (length out < length text → out' ≡ out) × (length text ≤ length out → take (length text) out' ≡ text) × KeptPast (length text) out out'
 printed_buffers = Rattle.demands.proofs.Buffers.printed_buffers
 
@@ -136,8 +135,8 @@ zeros_of_steps = Rattle.clauses.proofs.StepsRead.zeros_of_steps
 -- Where every latch may start at any value, what an accepted refutation says of the first k + 1 positions holds of any k + 1 positions in a row, however
 -- late, of every endless run; of the fault F (x and X y), y never comes right after x.
 pub refuted_at_every_tick : {version : ℕ} {ws : List ℕ} {refutation room : List ℤ} {numbers clauses : List ℕ}
-    {r : Refuted} {room' : List ℤ} {numbers' clauses' : List ℕ}
-    → JudgedAs version ws refutation room numbers clauses r room' numbers' clauses' → r ≡ problem-judge.Yes
+    {r : Result Unit Unrefuted} {room' : List ℤ} {numbers' clauses' : List ℕ}
+    → JudgedAs version ws refutation room numbers clauses r room' numbers' clauses' → r ≡ Ok tt
     → ((i : ℕ) → i < length (problem version ws).latches → (latch (problem version ws) i).reset ≡ 2)
     → (path : ℕ → Position) → EndlessRun (problem version ws) path → (n : ℕ)
     → prefix_value (problem version ws).bound (λ i. values (problem version ws) (path (n + i))) (formula (problem version ws)) 0 ≡ false

@@ -3,27 +3,26 @@
 use mathlib.Core.{Path.◌≡◌, List.List}
 use Prim.Native.Nat.{ℕ}
 use lib.{IntN.ℤ}
+use Rattle.std.specs.Prelude.{Result}
 use Rattle.answers.specs.Answers.{Check}
-use Rattle.refutation.specs.declared.WordsCounted.{WordsCounted}
 use Rattle.refutation.specs.Promise.{StepsCounted}
 use Rattle.problem.specs.declared.Node.{Node}
-use Rattle.problem.specs.declared.parts.PartAnswer.{PartAnswer}
+use Rattle.problem.specs.declared.Refusal.{Refusal}
 use Rattle.problem.specs.Promise.{node_read}
 use Rattle.problem.specs.CheckParts.{Answers, Joined}
 use Rattle.job_file.specs.declared.job.Job.{Job}
-use Rattle.job_file.specs.declared.texts.Printed.{Printed}
 use Rattle.job_file.specs.Promise.{JobRead, Prints}
 
 -- The number of a refutation's steps, for v variables and c clauses.
-pub steps_unique : (v c : ℕ) (refutation : List ℤ) (r r' : WordsCounted) → StepsCounted v c refutation r → StepsCounted v c refutation r' → r ≡ r'
+pub steps_unique : (v c : ℕ) (refutation : List ℤ) (r r' : Result ℕ ℕ) → StepsCounted v c refutation r → StepsCounted v c refutation r' → r ≡ r'
 steps_unique = Rattle.refutation.proofs.Unique.counted_unique
 
 -- A job file read.
-pub job_unique : (bs : List ℕ) (j j' : Job) → JobRead bs j → JobRead bs j' → j ≡ j'
+pub job_unique : (bs : List ℕ) (j j' : Result Job ℕ) → JobRead bs j → JobRead bs j' → j ≡ j'
 job_unique = Rattle.job_file.proofs.Unique.job_unique
 
 -- Any text that is printed: of a job, of a CNF, of a refusal.
-pub printed_unique : (text out : List ℕ) {r r' : Printed} {p p' : List ℕ} → Prints text out r p → Prints text out r' p' → (r ≡ r') × (p ≡ p')
+pub printed_unique : (text out : List ℕ) {r r' : Result ℕ ℕ} {p p' : List ℕ} → Prints text out r p → Prints text out r' p' → (r ≡ r') × (p ≡ p')
 printed_unique = Rattle.job_file.proofs.Unique.printed_unique
 
 -- The readers of a problem's parts promise equations; of one node:
@@ -31,8 +30,8 @@ pub node_unique : (r r' : Node) → node_read r ≡ node_read r' → r ≡ r'
 node_unique = Rattle.problem.proofs.Unique.node_unique
 
 -- A part of the check, of a problem's words or of a circuit's, and two parts joined.
-pub part_unique : {ps : List (List Check)} (r r' : PartAnswer) → Answers ps r → Answers ps r' → r ≡ r'
+pub part_unique : {ps : List (List Check)} (r r' : Result Unit Refusal) → Answers ps r → Answers ps r' → r ≡ r'
 part_unique = Rattle.problem.proofs.Unique.answers_unique
 
-pub joined_unique : (first second r r' : PartAnswer) → Joined first second r → Joined first second r' → r ≡ r'
+pub joined_unique : (first second r r' : Result Unit Refusal) → Joined first second r → Joined first second r' → r ≡ r'
 joined_unique = Rattle.problem.proofs.Unique.joined_unique

@@ -6,6 +6,7 @@ use mathlib.Core.List.{List}
 use Prim.Native.Nat.{ℕ}
 use borrow.Author.Tests.{eqb-true, eqb-false, ne_eqb}
 use lib.Dec.{eqb, ltb, lit<}
+use Rattle.std.specs.Prelude.{Result}
 use Rattle.answers.specs.Lists.{all_of}
 use Rattle.answers.specs.Answers.{Answer, Check, first_failing}
 use Rattle.answers.specs.Limits.{program_room}
@@ -16,7 +17,6 @@ use Rattle.meaning.specs.Problem.{header_words, problem}
 use Rattle.meaning.specs.Cnf.{variables, cnf}
 use Rattle.meaning.specs.Calls.{write_cnf}
 use Rattle.meaning.proofs.Check.{first_failing_refused, passes_at}
-use Rattle.job_file.specs.declared.texts.Printed.{Printed}
 use Rattle.job_file.specs.JobFile.{job_version, job_words, job_problem, job_checks, job_answer, cnf_text, refusal_line, printed}
 use Rattle.job_file.specs.Promise.{Prints}
 use Rattle.job_file.proofs.JobOrder.{job_answer_is}
@@ -99,5 +99,5 @@ module _ (bs : List ℕ) (not_2 : job_version bs ≡ 2 → ⊥) where
       by_version true e = text_kept (eqb-true _ 1 e)
       by_version false e = refusal_kept (eqb-false _ 1 e)
 
-  pub print_kept : {out : List ℕ} {r : Printed} {out' : List ℕ} → Prints (printed bs) out r out' → Prints (printed_in_01 bs) out r out'
+  pub print_kept : {out : List ℕ} {r : Result ℕ ℕ} {out' : List ℕ} → Prints (printed bs) out r out' → Prints (printed_in_01 bs) out r out'
   print_kept = rw printed_kept (λ c. c)

@@ -5,14 +5,15 @@ use mathlib.Core.{Path.◌≡◌, List.List, List.[], Logic.◌↔◌, Logic.◌
 use mathlib.Core.Bool.{true, false}
 use Prim.Native.Nat.{ℕ, ◌≤◌, ◌<◌}
 use lib.{IntN.ℤ, ListN.length, ListN.get_or}
+use Rattle.std.specs.Prelude.{Result, Ok, Err}
 use Rattle.answers.specs.Lists.{empty}
 use Rattle.answers.specs.Limits.{longest_text}
 use Rattle.answers.specs.Answers.{granted, first_failing}
 use Rattle.clauses.specs.CnfWords.{clauses_of, cnf_checks}
 use Rattle.clauses.specs.Refutations.{step, steps_of, refutation_checks, both_signs, last_is_empty, numbers_area, clauses_area}
 use Rattle.clauses.specs.StepsRefused.{passes, FirstRefused}
-use Rattle.refutation.specs.declared.RefutationAnswer.{RefutationAnswer}
-use Rattle.refutation.specs.declared.RefutationAnswer.TheVariants as cnf-judge
+use Rattle.refutation.specs.declared.NotRefuted.{NotRefuted}
+use Rattle.refutation.specs.declared.NotRefuted.TheVariants as not-refuted
 use Rattle.refutation.specs.Promise.{Judged}
 use Rattle.meaning.specs.Problem.{problem}
 use Rattle.meaning.specs.Runs.{meets_constraints}
@@ -20,20 +21,21 @@ use Rattle.meaning.specs.Bounded.{lasso}
 use Rattle.meaning.specs.Witnesses.{shape, position, Shows}
 use Rattle.meaning.specs.Cnf.{cnf, cnf_words, variables}
 use Rattle.meaning.specs.Calls.{WellFormed, judge_witness}
-use Rattle.encoder.specs.declared.Encoded.{Encoded}
-use Rattle.encoder.specs.declared.Encoded.TheVariants.{RoomTooSmall}
+use Rattle.counts.specs.declared.Counts.{Counts}
+use Rattle.encoder.specs.declared.NotWritten.{NotWritten}
+use Rattle.encoder.specs.declared.NotWritten.TheVariants as not-written
 use Rattle.encoder.specs.Promise.{EncodedAs}
-use Rattle.witness.specs.declared.WitnessAnswer.{WitnessAnswer}
-use Rattle.witness.specs.declared.WitnessAnswer.TheVariants as witness-judge
+use Rattle.witness.specs.declared.NotWitness.{NotWitness}
+use Rattle.witness.specs.declared.NotWitness.TheVariants as not-witness
 use Rattle.witness.specs.Promise.{answer_of}
 use Rattle.text.specs.Readings.{found, fault}
-use Rattle.aiger.specs.declared.Outcome.{Outcome}
-use Rattle.aiger.specs.declared.Outcome.TheVariants as circuit
+use Rattle.aiger.specs.declared.NotDone.{NotDone}
+use Rattle.aiger.specs.declared.NotDone.TheVariants as not-done
 use Rattle.aiger.specs.Circuits.{check_circuit}
 use Rattle.aiger.specs.Texts.{circuit_text, circuit_read}
 use Rattle.aiger.specs.Promise.{ReadAs, WrittenAs}
-use Rattle.checker.specs.declared.Refuted.{Refuted}
-use Rattle.checker.specs.declared.Refuted.TheVariants as problem-judge
+use Rattle.checker.specs.declared.Unrefuted.{Unrefuted}
+use Rattle.checker.specs.declared.Unrefuted.TheVariants as unrefuted
 use Rattle.checker.specs.Refutation.{JudgedAs}
 use Rattle.demands.specs.RunRefused.{Begins, ClosesIfLasso, FirstOpen}
 use Rattle.demands.specs.BeforeSteps.{CnfReady, ProblemReady}
@@ -41,15 +43,15 @@ use Rattle.demands.specs.BeforeSteps.{CnfReady, ProblemReady}
 -- ════════ 6 and 12 ════════
 
 -- 6 of the CNF writer: the words are well formed, and the room has fewer words than their CNF; the place is the words that it needs.
-pub refused_6 : {version : ℕ} {ws : List ℕ} {before after : List ℤ} {r : Encoded} → EncodedAs version ws before r after → (n : ℕ)
-    → (r ≡ RoomTooSmall n)
+pub refused_6 : {version : ℕ} {ws : List ℕ} {before after : List ℤ} {r : Result Counts NotWritten} → EncodedAs version ws before r after → (n : ℕ)
+    → (r ≡ Err (not-written.RoomTooSmall n))
     ↔ (WellFormed version ws × (length before < length (cnf_words (problem version ws))) × (n ≡ length (cnf_words (problem version ws))))
 refused_6 call = Rattle.demands.proofs.RoomRefused.refused_6 call
 
 -- 12 of the refutation judge for any CNF: 16 and 11 pass, and the area by numbers has too few words, or it has enough and the area by clauses has too few.
-pub refused_12 : {v : ℕ} {bare refutation : List ℤ} {numbers clauses : List ℕ} {r : RefutationAnswer} {numbers' clauses' : List ℕ}
+pub refused_12 : {v : ℕ} {bare refutation : List ℤ} {numbers clauses : List ℕ} {r : Result Unit NotRefuted} {numbers' clauses' : List ℕ}
     → Judged v bare refutation numbers clauses r numbers' clauses' → (n : ℕ)
-    → (r ≡ cnf-judge.AreaTooSmall n)
+    → (r ≡ Err (not-refuted.AreaTooSmall n))
     ↔ ((first_failing (cnf_checks v bare) (granted 0) ≡ granted 0)
     × (first_failing (refutation_checks v (length (clauses_of bare)) refutation) (granted 0) ≡ granted 0)
     × (((length numbers < numbers_area v) × (n ≡ numbers_area v))
@@ -59,13 +61,13 @@ refused_12 call = Rattle.demands.proofs.RoomRefused.refused_12 call
 
 -- The judge of a problem's refutation: 6 as of the CNF writer, and 12 where 15, 1 to 5, 6 and 11 pass.
 module _ {version : ℕ} {ws : List ℕ} {refutation room : List ℤ} {numbers clauses : List ℕ}
-    {r : Refuted} {room' : List ℤ} {numbers' clauses' : List ℕ}
+    {r : Result Unit Unrefuted} {room' : List ℤ} {numbers' clauses' : List ℕ}
     (call : JudgedAs version ws refutation room numbers clauses r room' numbers' clauses') (n : ℕ) where
-  pub problem_refused_6 : (r ≡ problem-judge.RoomTooSmall n)
+  pub problem_refused_6 : (r ≡ Err (unrefuted.Cnf (not-written.RoomTooSmall n)))
       ↔ (WellFormed version ws × (length room < length (cnf_words (problem version ws))) × (n ≡ length (cnf_words (problem version ws))))
   problem_refused_6 = Rattle.demands.proofs.RoomRefused.problem_refused_6 call n
 
-  pub problem_refused_12 : (r ≡ problem-judge.AreaTooSmall n)
+  pub problem_refused_12 : (r ≡ Err (unrefuted.Refutation (not-refuted.AreaTooSmall n)))
       ↔ (WellFormed version ws × (length (cnf_words (problem version ws)) ≤ length room)
       × (first_failing (refutation_checks (variables (problem version ws)) (length (cnf (problem version ws))) refutation) (granted 0) ≡ granted 0)
       × (((length numbers < numbers_area (variables (problem version ws))) × (n ≡ numbers_area (variables (problem version ws))))
@@ -77,18 +79,18 @@ module _ {version : ℕ} {ws : List ℕ} {refutation room : List ℤ} {numbers c
 
 -- The witness judge: 9 names the first latch that differs, 20 the first position at which a constraint is false; 10, whose place is 0, comes where all
 -- else passes and the formula is not shown.
-module _ (version : ℕ) (ws bs : List ℕ) {r : WitnessAnswer} (call : answer_of r ≡ judge_witness version ws bs) where
-  pub refused_9 : (i : ℕ) → (r ≡ witness-judge.OpenLoop i)
+module _ (version : ℕ) (ws bs : List ℕ) {r : Result Unit NotWitness} (call : answer_of r ≡ judge_witness version ws bs) where
+  pub refused_9 : (i : ℕ) → (r ≡ Err (not-witness.OpenLoop i))
       ↔ (WellFormed version ws × Begins (problem version ws) bs × ((l : ℕ) × (shape bs ≡ lasso l) × FirstOpen (problem version ws) bs l i))
   refused_9 = Rattle.demands.proofs.RunRefused.refused_9 version ws bs call
 
-  pub refused_20 : (t : ℕ) → (r ≡ witness-judge.ConstraintBroken t)
+  pub refused_20 : (t : ℕ) → (r ≡ Err (not-witness.ConstraintBroken t))
       ↔ (WellFormed version ws × Begins (problem version ws) bs × ClosesIfLasso (problem version ws) bs (shape bs) × (t ≤ (problem version ws).bound)
       × (meets_constraints (problem version ws) (position (problem version ws) bs t) ≡ false)
       × ((u : ℕ) → u < t → meets_constraints (problem version ws) (position (problem version ws) bs u) ≡ true))
   refused_20 = Rattle.demands.proofs.RunRefused.refused_20 version ws bs call
 
-  pub refused_10 : (r ≡ witness-judge.FormulaFalse)
+  pub refused_10 : (r ≡ Err not-witness.FormulaFalse)
       ↔ (WellFormed version ws × Begins (problem version ws) bs × ClosesIfLasso (problem version ws) bs (shape bs)
       × ((t : ℕ) → t ≤ (problem version ws).bound → meets_constraints (problem version ws) (position (problem version ws) bs t) ≡ true)
       × (Shows (problem version ws) bs (shape bs) → ⊥))
@@ -98,19 +100,19 @@ module _ (version : ℕ) (ws bs : List ℕ) {r : WitnessAnswer} (call : answer_o
 
 -- 13, 14 and yes of the refutation judge for any CNF: 16, 11 and 12 pass, and then the first step that is refused, or none and the last clause. Of Q-4, "a
 -- step whose clause has a variable with both signs" is refused exactly if it has hints.
-module _ {v : ℕ} {bare refutation : List ℤ} {numbers clauses : List ℕ} {r : RefutationAnswer} {numbers' clauses' : List ℕ}
+module _ {v : ℕ} {bare refutation : List ℤ} {numbers clauses : List ℕ} {r : Result Unit NotRefuted} {numbers' clauses' : List ℕ}
     (call : Judged v bare refutation numbers clauses r numbers' clauses') where
-  pub refused_13 : (i : ℕ) → (r ≡ cnf-judge.StepRefused i)
+  pub refused_13 : (i : ℕ) → (r ≡ Err (not-refuted.StepRefused i))
       ↔ (CnfReady v bare refutation (length numbers) (length clauses) × FirstRefused (clauses_of bare) (steps_of refutation) i)
   refused_13 = Rattle.demands.proofs.StepsRefused.refused_13 call
 
-  pub refused_14 : (n : ℕ) → (r ≡ cnf-judge.NotClosed n)
+  pub refused_14 : (n : ℕ) → (r ≡ Err (not-refuted.NotClosed n))
       ↔ (CnfReady v bare refutation (length numbers) (length clauses)
       × ((j : ℕ) → j < length (steps_of refutation) → passes (clauses_of bare) (steps_of refutation) j ≡ true)
       × (last_is_empty (steps_of refutation) ≡ false) × (n ≡ length (steps_of refutation)))
   refused_14 = Rattle.demands.proofs.StepsRefused.refused_14 call
 
-  pub accepted_exactly : (r ≡ cnf-judge.Yes)
+  pub accepted_exactly : (r ≡ Ok tt)
       ↔ (CnfReady v bare refutation (length numbers) (length clauses)
       × ((j : ℕ) → j < length (steps_of refutation) → passes (clauses_of bare) (steps_of refutation) j ≡ true)
       × (last_is_empty (steps_of refutation) ≡ true))
@@ -119,24 +121,24 @@ module _ {v : ℕ} {bare refutation : List ℤ} {numbers clauses : List ℕ} {r 
   pub both_signs_refused : CnfReady v bare refutation (length numbers) (length clauses) → (i : ℕ) → i < length (steps_of refutation)
       → ((j : ℕ) → j < i → passes (clauses_of bare) (steps_of refutation) j ≡ true)
       → both_signs (get_or (steps_of refutation) i (step [] [])).clause ≡ true
-      → (r ≡ cnf-judge.StepRefused i) ↔ (empty (get_or (steps_of refutation) i (step [] [])).hints ≡ false)
+      → (r ≡ Err (not-refuted.StepRefused i)) ↔ (empty (get_or (steps_of refutation) i (step [] [])).hints ≡ false)
   both_signs_refused = Rattle.demands.proofs.StepsRefused.both_signs_refused call
 
 -- The same of a problem's refutation, where 15, 1 to 5, 6, 11 and 12 pass.
 module _ {version : ℕ} {ws : List ℕ} {refutation room : List ℤ} {numbers clauses : List ℕ}
-    {r : Refuted} {room' : List ℤ} {numbers' clauses' : List ℕ}
+    {r : Result Unit Unrefuted} {room' : List ℤ} {numbers' clauses' : List ℕ}
     (call : JudgedAs version ws refutation room numbers clauses r room' numbers' clauses') where
-  pub problem_refused_13 : (i : ℕ) → (r ≡ problem-judge.StepRefused i)
+  pub problem_refused_13 : (i : ℕ) → (r ≡ Err (unrefuted.Refutation (not-refuted.StepRefused i)))
       ↔ (ProblemReady version ws refutation (length room) (length numbers) (length clauses) × FirstRefused (cnf (problem version ws)) (steps_of refutation) i)
   problem_refused_13 = Rattle.demands.proofs.StepsRefused.problem_refused_13 call
 
-  pub problem_refused_14 : (n : ℕ) → (r ≡ problem-judge.NotClosed n)
+  pub problem_refused_14 : (n : ℕ) → (r ≡ Err (unrefuted.Refutation (not-refuted.NotClosed n)))
       ↔ (ProblemReady version ws refutation (length room) (length numbers) (length clauses)
       × ((j : ℕ) → j < length (steps_of refutation) → passes (cnf (problem version ws)) (steps_of refutation) j ≡ true)
       × (last_is_empty (steps_of refutation) ≡ false) × (n ≡ length (steps_of refutation)))
   problem_refused_14 = Rattle.demands.proofs.StepsRefused.problem_refused_14 call
 
-  pub problem_accepted_exactly : (r ≡ problem-judge.Yes)
+  pub problem_accepted_exactly : (r ≡ Ok tt)
       ↔ (ProblemReady version ws refutation (length room) (length numbers) (length clauses)
       × ((j : ℕ) → j < length (steps_of refutation) → passes (cnf (problem version ws)) (steps_of refutation) j ≡ true)
       × (last_is_empty (steps_of refutation) ≡ true))
@@ -145,27 +147,27 @@ module _ {version : ℕ} {ws : List ℕ} {refutation room : List ℤ} {numbers c
   pub problem_both_signs_refused : ProblemReady version ws refutation (length room) (length numbers) (length clauses) → (i : ℕ) → i < length (steps_of refutation)
       → ((j : ℕ) → j < i → passes (cnf (problem version ws)) (steps_of refutation) j ≡ true)
       → both_signs (get_or (steps_of refutation) i (step [] [])).clause ≡ true
-      → (r ≡ problem-judge.StepRefused i) ↔ (empty (get_or (steps_of refutation) i (step [] [])).hints ≡ false)
+      → (r ≡ Err (unrefuted.Refutation (not-refuted.StepRefused i))) ↔ (empty (get_or (steps_of refutation) i (step [] [])).hints ≡ false)
   problem_both_signs_refused = Rattle.demands.proofs.StepsRefused.problem_both_signs_refused call
 
 -- ════════ 19 and 27 ════════
 
 -- The reader of a circuit's text: 19 at the fault of its lines, or of good lines at 2,147,483,647 where the text is too long; 27 where both pass. The writer:
 -- 27 of words that pass 1 to 4.
-pub refused_19 : {text before after : List ℕ} {r : Outcome} → ReadAs text before r after → (p : ℕ)
-    → (r ≡ circuit.BadText p)
+pub refused_19 : {text before after : List ℕ} {r : Result ℕ NotDone} → ReadAs text before r after → (p : ℕ)
+    → (r ≡ Err (not-done.BadText p))
     ↔ ((circuit_read text ≡ fault p)
     ⊎ (((ws : List ℕ) × (q : ℕ) × (left : List ℕ) × (circuit_read text ≡ found ws q left)) × (longest_text < length text) × (p ≡ longest_text)))
 refused_19 call = Rattle.aiger.proofs.Refused.refused_19 call
 
-pub read_refused_27 : {text before after : List ℕ} {r : Outcome} → ReadAs text before r after → (n : ℕ)
-    → (r ≡ circuit.RoomTooSmall n)
+pub read_refused_27 : {text before after : List ℕ} {r : Result ℕ NotDone} → ReadAs text before r after → (n : ℕ)
+    → (r ≡ Err (not-done.RoomTooSmall n))
     ↔ ((ws : List ℕ) × (q : ℕ) × (left : List ℕ) × (circuit_read text ≡ found ws q left)
     × (length text ≤ longest_text) × (length before < length ws) × (n ≡ length ws))
 read_refused_27 call = Rattle.aiger.proofs.Refused.read_refused_27 call
 
-pub write_refused_27 : {ws before after : List ℕ} {r : Outcome} → WrittenAs ws before r after → (n : ℕ)
-    → (r ≡ circuit.RoomTooSmall n) ↔ ((check_circuit ws ≡ granted 0) × (length before < length (circuit_text ws)) × (n ≡ length (circuit_text ws)))
+pub write_refused_27 : {ws before after : List ℕ} {r : Result ℕ NotDone} → WrittenAs ws before r after → (n : ℕ)
+    → (r ≡ Err (not-done.RoomTooSmall n)) ↔ ((check_circuit ws ≡ granted 0) × (length before < length (circuit_text ws)) × (n ≡ length (circuit_text ws)))
 write_refused_27 call = Rattle.aiger.proofs.Refused.write_refused_27 call
 
 -- No fault lies past byte 2,147,483,647.

@@ -9,6 +9,7 @@ use borrow.Author.Tests.{leb-true, leb-false, le-leb, lt-leb}
 use lib.Dec.{leb}
 use lib.IntN.{ℤ}
 use lib.ListN.{length}
+use Rattle.std.specs.Prelude.{Result, Err}
 use Rattle.answers.specs.Answers.{Answer, answer, Check, first_failing, granted, area_too_small, room_too_small}
 use Rattle.answers.proofs.Answers.{number_of, place_of, number_after, past_checks, one_check}
 use Rattle.clauses.specs.Clauses.{Clause}
@@ -16,8 +17,8 @@ use Rattle.clauses.specs.CnfWords.{clauses_of, cnf_checks}
 use Rattle.clauses.specs.Refutations.{Step, steps_of, refutation_checks, area_checks, numbers_area, clauses_area, judge_steps, judge_clauses, judged}
 use Rattle.clauses.proofs.Judges.{cnf_checks_other, cnf_checks_refusing, refutation_checks_other, refutation_checks_refusing, area_checks_other}
 use Rattle.clauses.proofs.Judges.{steps_judged, cnf_judged, clauses_judged}
-use Rattle.refutation.specs.declared.RefutationAnswer.{RefutationAnswer}
-use Rattle.refutation.specs.declared.RefutationAnswer.TheVariants as cnf-judge
+use Rattle.refutation.specs.declared.NotRefuted.{NotRefuted}
+use Rattle.refutation.specs.declared.NotRefuted.TheVariants as not-refuted
 use Rattle.refutation.specs.Promise.{answer_of as refutation_answer, Judged}
 use Rattle.refutation.proofs.Unique as cnf-unique
 use Rattle.meaning.specs.Problem.{Problem, problem}
@@ -25,12 +26,13 @@ use Rattle.meaning.specs.Cnf.{cnf, cnf_words, variables}
 use Rattle.meaning.specs.Calls.{WellFormed, room_checks}
 use Rattle.meaning.proofs.Check.{problem_checked, past_check}
 use Rattle.meaning.proofs.Calls.{write_cnf_is, refutation_by_clauses}
-use Rattle.encoder.specs.declared.Encoded.{Encoded}
-use Rattle.encoder.specs.declared.Encoded.TheVariants.{RoomTooSmall}
+use Rattle.counts.specs.declared.Counts.{Counts}
+use Rattle.encoder.specs.declared.NotWritten.{NotWritten}
+use Rattle.encoder.specs.declared.NotWritten.TheVariants as not-written
 use Rattle.encoder.specs.Promise.{answer_of as encoded_answer, EncodedAs}
 use Rattle.encoder.proofs.Unique.{encoded_unique}
-use Rattle.checker.specs.declared.Refuted.{Refuted}
-use Rattle.checker.specs.declared.Refuted.TheVariants as problem-judge
+use Rattle.checker.specs.declared.Unrefuted.{Unrefuted}
+use Rattle.checker.specs.declared.Unrefuted.TheVariants as unrefuted
 use Rattle.checker.specs.Refutation.{refuted_answer, JudgedAs}
 use Rattle.checker.proofs.RefutedUnique as problem-unique
 use Rattle.demands.proofs.BeforeSteps.{yes_through, past_6}
@@ -60,14 +62,14 @@ checked_6 version ws room n after not_6 =
     )
 
 -- The CNF writer.
-module _ {version : ℕ} {ws : List ℕ} {before after : List ℤ} {r : Encoded} (call : EncodedAs version ws before r after) where
-  pub refused_6 : (n : ℕ) → (r ≡ RoomTooSmall n)
+module _ {version : ℕ} {ws : List ℕ} {before after : List ℤ} {r : Result Counts NotWritten} (call : EncodedAs version ws before r after) where
+  pub refused_6 : (n : ℕ) → (r ≡ Err (not-written.RoomTooSmall n))
       ↔ (WellFormed version ws × (length before < length (cnf_words (problem version ws))) × (n ≡ length (cnf_words (problem version ws))))
   refused_6 n =
       let named = checked_6 version ws (length before) n (granted (length (cnf_words (problem version ws)))) (λ z. omega arith) in
       let is = write_cnf_is version ws (length before) in (
         λ e. named.0 (sym is ∙ sym call.answered ∙ ap encoded_answer e),
-        λ h. (encoded_unique version ws before r (RoomTooSmall n) after _ call
+        λ h. (encoded_unique version ws before r (Err (not-written.RoomTooSmall n)) after _ call
             (record { answered = sym (is ∙ named.1 h); room_after = refl; numbered = tt })).0,
       )
 
@@ -127,9 +129,9 @@ module _ (v : ℕ) (cs : List Clause) (refutation : List ℤ) (numbers clauses :
       not_steps 6 refl (number_after 6 areas (judge_steps cs ss) (area_checks_other 6 refl v cs ss numbers clauses) past_11)
 
 -- The refutation judge for any CNF.
-module _ {v : ℕ} {bare refutation : List ℤ} {numbers clauses : List ℕ} {r : RefutationAnswer} {numbers' clauses' : List ℕ}
+module _ {v : ℕ} {bare refutation : List ℤ} {numbers clauses : List ℕ} {r : Result Unit NotRefuted} {numbers' clauses' : List ℕ}
     (call : Judged v bare refutation numbers clauses r numbers' clauses') where
-  pub refused_12 : (n : ℕ) → (r ≡ cnf-judge.AreaTooSmall n)
+  pub refused_12 : (n : ℕ) → (r ≡ Err (not-refuted.AreaTooSmall n))
       ↔ ((first_failing (cnf_checks v bare) (granted 0) ≡ granted 0)
       × (first_failing (refutation_checks v (length (clauses_of bare)) refutation) (granted 0) ≡ granted 0)
       × AreaShort (numbers_area v) (clauses_area (clauses_of bare) (steps_of refutation)) (length numbers) (length clauses) n)
@@ -143,13 +145,13 @@ module _ {v : ℕ} {bare refutation : List ℤ} {numbers clauses : List ℕ} {r 
             let (pass, after_16) = past.0 (sym is ∙ sym call.answered ∙ ap refutation_answer e) in
             let (words_right, short) = named.0 after_16 in
             (right.1 pass, words_right, short),
-        λ h. cnf-unique.same_answer r (cnf-judge.AreaTooSmall n) (call.answered ∙ is ∙ past.1 (right.0 h.0, named.1 (h.1, h.2))),
+        λ h. cnf-unique.same_answer r (Err (not-refuted.AreaTooSmall n)) (call.answered ∙ is ∙ past.1 (right.0 h.0, named.1 (h.1, h.2))),
       )
 
 -- ════════ The judge of a problem's refutation ════════
 
 module _ {version : ℕ} {ws : List ℕ} {refutation room : List ℤ} {numbers clauses : List ℕ}
-    {r : Refuted} {room' : List ℤ} {numbers' clauses' : List ℕ}
+    {r : Result Unit Unrefuted} {room' : List ℤ} {numbers' clauses' : List ℕ}
     (call : JudgedAs version ws refutation room numbers clauses r room' numbers' clauses') where
   abbrev p : Problem
   p = problem version ws
@@ -160,15 +162,15 @@ module _ {version : ℕ} {ws : List ℕ} {refutation room : List ℤ} {numbers c
   answered : refuted_answer r ≡ problem_checked version ws (first_failing (room_checks p (length room)) after_6)
   answered = call.answered ∙ refutation_by_clauses version ws refutation (length room) (length numbers) (length clauses)
 
-  pub problem_refused_6 : (n : ℕ) → (r ≡ problem-judge.RoomTooSmall n)
+  pub problem_refused_6 : (n : ℕ) → (r ≡ Err (unrefuted.Cnf (not-written.RoomTooSmall n)))
       ↔ (WellFormed version ws × (length room < length (cnf_words (problem version ws))) × (n ≡ length (cnf_words (problem version ws))))
   problem_refused_6 n =
       let named = checked_6 version ws (length room) n after_6 (clauses_not_6 (variables p) (cnf p) refutation (length numbers) (length clauses)) in (
         λ e. named.0 (sym answered ∙ ap refuted_answer e),
-        λ h. problem-unique.same_answer r (problem-judge.RoomTooSmall n) (answered ∙ named.1 h),
+        λ h. problem-unique.same_answer r (Err (unrefuted.Cnf (not-written.RoomTooSmall n))) (answered ∙ named.1 h),
       )
 
-  pub problem_refused_12 : (n : ℕ) → (r ≡ problem-judge.AreaTooSmall n)
+  pub problem_refused_12 : (n : ℕ) → (r ≡ Err (unrefuted.Refutation (not-refuted.AreaTooSmall n)))
       ↔ (WellFormed version ws × (length (cnf_words (problem version ws)) ≤ length room)
       × (first_failing (refutation_checks (variables (problem version ws)) (length (cnf (problem version ws))) refutation) (granted 0) ≡ granted 0)
       × AreaShort (numbers_area (variables (problem version ws))) (clauses_area (cnf (problem version ws)) (steps_of refutation))
@@ -183,6 +185,6 @@ module _ {version : ℕ} {ws : List ℕ} {refutation room : List ℤ} {numbers c
             let (words_right, short) = named.0 later in
             (formed, fits, words_right, short),
         λ h.
-            problem-unique.same_answer r (problem-judge.AreaTooSmall n)
+            problem-unique.same_answer r (Err (unrefuted.Refutation (not-refuted.AreaTooSmall n)))
             (answered ∙ checked.1 (h.0, fitting.1 (h.1, named.1 (h.2, h.3)))),
       )

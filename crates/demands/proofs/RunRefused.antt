@@ -7,6 +7,7 @@ use Prim.Native.Nat.{ℕ, ◌+◌, ◌≤◌, ◌<◌}
 use native.Mathlib.Omega.{arith}
 use lib.Dec.{eqb}
 use lib.ListN.{length}
+use Rattle.std.specs.Prelude.{Result, Err}
 use Rattle.answers.specs.Lists.{all_of}
 use Rattle.answers.specs.Answers.{Answer, first_failing, granted, open_loop, formula_false}
 use Rattle.answers.proofs.Tests.{not_both, false_if_not_true}
@@ -26,8 +27,8 @@ use Rattle.pairing.proofs.Forms.{beq_is}
 use Rattle.pairing.proofs.Witnesses.{byte_checks_other, reset_checks_other, loop_checks_other, position_checks_other}
 use Rattle.pairing.proofs.Witnesses.{length_if_pass, start_if_pass, bits_if_pass, pass_if_bits, starts_if_pass, pass_if_starts}
 use Rattle.pairing.proofs.Witnesses.{loop_test_at, closes_if_passes, passes_if_closes, shows_if_pass, value_if_shows, position_test_at, met_if_pass, pass_if_met}
-use Rattle.witness.specs.declared.WitnessAnswer.{WitnessAnswer}
-use Rattle.witness.specs.declared.WitnessAnswer.TheVariants.{OpenLoop, ConstraintBroken, FormulaFalse}
+use Rattle.witness.specs.declared.NotWitness.{NotWitness}
+use Rattle.witness.specs.declared.NotWitness.TheVariants as not-witness
 use Rattle.witness.specs.Promise.{answer_of}
 use Rattle.witness.proofs.Unique.{judgement_unique}
 use Rattle.demands.specs.RunRefused.{Begins, ClosesIfLasso, FirstOpen}
@@ -152,9 +153,9 @@ module _ (version : ℕ) (ws bs : List ℕ) where
   abbrev p : Problem
   p = problem version ws
 
-  module _ {r : WitnessAnswer} (call : answer_of r ≡ judge_witness version ws bs) where
+  module _ {r : Result Unit NotWitness} (call : answer_of r ≡ judge_witness version ws bs) where
     -- An answer by another number than the check's, 7 and 8,
-    after_8 : (a : WitnessAnswer) → Apart (answer_of a).number check_numbers → not (eqb 7 (answer_of a).number) ≡ true
+    after_8 : (a : Result Unit NotWitness) → Apart (answer_of a).number check_numbers → not (eqb 7 (answer_of a).number) ≡ true
         → not (eqb 8 (answer_of a).number) ≡ true → (r ≡ a) ↔ (WellFormed version ws × Begins p bs × (from_loop p bs (shape bs) ≡ answer_of a))
     after_8 a apart not_7 not_8 =
         let checked = past_check version ws (judge_bytes p bs) (answer_of a) apart in
@@ -168,7 +169,7 @@ module _ (version : ℕ) (ws bs : List ℕ) where
         )
 
     -- and than 9.
-    after_9 : (a : WitnessAnswer) → Apart (answer_of a).number check_numbers → not (eqb 7 (answer_of a).number) ≡ true
+    after_9 : (a : Result Unit NotWitness) → Apart (answer_of a).number check_numbers → not (eqb 7 (answer_of a).number) ≡ true
         → not (eqb 8 (answer_of a).number) ≡ true → not (eqb 9 (answer_of a).number) ≡ true
         → (r ≡ a) ↔ (WellFormed version ws × Begins p bs × ClosesIfLasso p bs (shape bs) × (from_positions p bs ≡ answer_of a))
     after_9 a apart not_7 not_8 not_9 =
@@ -181,19 +182,19 @@ module _ (version : ℕ) (ws bs : List ℕ) where
         )
 
     -- 9, with the first latch at which the loop does not close.
-    pub refused_9 : (i : ℕ) → (r ≡ OpenLoop i) ↔ (WellFormed version ws × Begins p bs × ((l : ℕ) × (shape bs ≡ lasso l) × FirstOpen p bs l i))
+    pub refused_9 : (i : ℕ) → (r ≡ Err (not-witness.OpenLoop i)) ↔ (WellFormed version ws × Begins p bs × ((l : ℕ) × (shape bs ≡ lasso l) × FirstOpen p bs l i))
     refused_9 i =
-        let past = after_8 (OpenLoop i) refl refl refl in (
+        let past = after_8 (Err (not-witness.OpenLoop i)) refl refl refl in (
           λ e. let (formed, b, later) = past.0 e in (formed, b, open_if p bs (shape bs) i later),
           λ h. past.1 (h.0, h.1, loop_if_open p bs (shape bs) i h.2.0 h.2.1 h.2.2),
         )
 
     -- 20, with the first position at which a constraint is false.
-    pub refused_20 : (t : ℕ) → (r ≡ ConstraintBroken t)
+    pub refused_20 : (t : ℕ) → (r ≡ Err (not-witness.ConstraintBroken t))
         ↔ (WellFormed version ws × Begins p bs × ClosesIfLasso p bs (shape bs)
         × (t ≤ p.bound) × (meets_constraints p (position p bs t) ≡ false) × ((u : ℕ) → u < t → meets_constraints p (position p bs u) ≡ true))
     refused_20 t =
-        let past = after_9 (ConstraintBroken t) refl refl refl refl in (
+        let past = after_9 (Err (not-witness.ConstraintBroken t)) refl refl refl refl in (
           λ e.
               let (formed, b, closed, later) = past.0 e in
               let (among, broken, before) = (broken_exactly p bs t).0 later in
@@ -202,11 +203,11 @@ module _ (version : ℕ) (ws bs : List ℕ) where
         )
 
     -- 10, where all that comes before passes and the run does not show the formula.
-    pub refused_10 : (r ≡ FormulaFalse)
+    pub refused_10 : (r ≡ Err not-witness.FormulaFalse)
         ↔ (WellFormed version ws × Begins p bs × ClosesIfLasso p bs (shape bs)
         × ((t : ℕ) → t ≤ p.bound → meets_constraints p (position p bs t) ≡ true) × (Shows p bs (shape bs) → ⊥))
     refused_10 =
-        let past = after_9 FormulaFalse refl refl refl refl in (
+        let past = after_9 (Err not-witness.FormulaFalse) refl refl refl refl in (
           λ e.
               let (formed, b, closed, later) = past.0 e in
               let (met, is_false) = (false_exactly p bs).0 later in

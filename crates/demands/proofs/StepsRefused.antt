@@ -6,6 +6,7 @@ use mathlib.Core.Logic.{◌↔◌}
 use Prim.Native.Nat.{ℕ, ◌<◌}
 use lib.IntN.{ℤ}
 use lib.ListN.{length, get_or}
+use Rattle.std.specs.Prelude.{Result, Ok, Err}
 use Rattle.answers.specs.Lists.{empty}
 use Rattle.answers.specs.Answers.{granted, step_refused, not_closed}
 use Rattle.clauses.specs.Clauses.{Clause}
@@ -14,14 +15,14 @@ use Rattle.clauses.specs.Refutations.{Step, step, steps_of, both_signs, last_is_
 use Rattle.clauses.specs.StepsRefused.{passes, FirstRefused}
 use Rattle.clauses.proofs.StepRule.{by_no_hints}
 use Rattle.clauses.proofs.StepsAnswered.{AllPass, steps_13, steps_14, steps_yes}
-use Rattle.refutation.specs.declared.RefutationAnswer.{RefutationAnswer}
-use Rattle.refutation.specs.declared.RefutationAnswer.TheVariants as cnf-judge
+use Rattle.refutation.specs.declared.NotRefuted.{NotRefuted}
+use Rattle.refutation.specs.declared.NotRefuted.TheVariants as not-refuted
 use Rattle.refutation.specs.Promise.{answer_of, Judged}
 use Rattle.refutation.proofs.Unique as cnf-unique
 use Rattle.meaning.specs.Problem.{problem}
 use Rattle.meaning.specs.Cnf.{cnf}
-use Rattle.checker.specs.declared.Refuted.{Refuted}
-use Rattle.checker.specs.declared.Refuted.TheVariants as problem-judge
+use Rattle.checker.specs.declared.Unrefuted.{Unrefuted}
+use Rattle.checker.specs.declared.Unrefuted.TheVariants as unrefuted
 use Rattle.checker.specs.Refutation.{refuted_answer, JudgedAs}
 use Rattle.checker.proofs.RefutedUnique as problem-unique
 use Rattle.demands.specs.BeforeSteps.{CnfReady, ProblemReady}
@@ -63,7 +64,7 @@ signs_refused cs ss i exactly ready within earlier both = (
 
 -- ════════ The judge for any CNF ════════
 
-module _ {v : ℕ} {words refutation : List ℤ} {numbers clauses : List ℕ} {r : RefutationAnswer} {numbers' clauses' : List ℕ}
+module _ {v : ℕ} {words refutation : List ℤ} {numbers clauses : List ℕ} {r : Result Unit NotRefuted} {numbers' clauses' : List ℕ}
     (call : Judged v words refutation numbers clauses r numbers' clauses') where
   abbrev cs : List Clause
   cs = clauses_of words
@@ -74,30 +75,30 @@ module _ {v : ℕ} {words refutation : List ℤ} {numbers clauses : List ℕ} {r
   abbrev Ready : Type 0
   Ready = CnfReady v words refutation (length numbers) (length clauses)
 
-  answered : (a : RefutationAnswer) → judged (answer_of a) ≡ true → (r ≡ a) ↔ (Ready × (judge_steps cs ss ≡ answer_of a))
+  answered : (a : Result Unit NotRefuted) → judged (answer_of a) ≡ true → (r ≡ a) ↔ (Ready × (judge_steps cs ss ≡ answer_of a))
   answered a of_steps =
       let by_steps = past_cnf (answer_of a) of_steps v words refutation (length numbers) (length clauses) in (
         λ e. by_steps.0 (sym call.answered ∙ ap answer_of e),
         λ h. cnf-unique.same_answer r a (call.answered ∙ by_steps.1 h),
       )
 
-  pub refused_13 : (i : ℕ) → (r ≡ cnf-judge.StepRefused i) ↔ (Ready × FirstRefused cs ss i)
-  refused_13 i = by_13 cs ss i (answered (cnf-judge.StepRefused i) refl)
+  pub refused_13 : (i : ℕ) → (r ≡ Err (not-refuted.StepRefused i)) ↔ (Ready × FirstRefused cs ss i)
+  refused_13 i = by_13 cs ss i (answered (Err (not-refuted.StepRefused i)) refl)
 
-  pub refused_14 : (n : ℕ) → (r ≡ cnf-judge.NotClosed n)
+  pub refused_14 : (n : ℕ) → (r ≡ Err (not-refuted.NotClosed n))
       ↔ (Ready × ((j : ℕ) → j < length ss → passes cs ss j ≡ true) × (last_is_empty ss ≡ false) × (n ≡ length ss))
-  refused_14 n = by_14 cs ss n (answered (cnf-judge.NotClosed n) refl)
+  refused_14 n = by_14 cs ss n (answered (Err (not-refuted.NotClosed n)) refl)
 
-  pub accepted_exactly : (r ≡ cnf-judge.Yes) ↔ (Ready × ((j : ℕ) → j < length ss → passes cs ss j ≡ true) × (last_is_empty ss ≡ true))
-  accepted_exactly = by_yes cs ss (answered cnf-judge.Yes refl)
+  pub accepted_exactly : (r ≡ Ok tt) ↔ (Ready × ((j : ℕ) → j < length ss → passes cs ss j ≡ true) × (last_is_empty ss ≡ true))
+  accepted_exactly = by_yes cs ss (answered (Ok tt) refl)
 
   pub both_signs_refused : Ready → (i : ℕ) → i < length ss → ((j : ℕ) → j < i → passes cs ss j ≡ true)
-      → both_signs (get_or ss i (step [] [])).clause ≡ true → (r ≡ cnf-judge.StepRefused i) ↔ (empty (get_or ss i (step [] [])).hints ≡ false)
+      → both_signs (get_or ss i (step [] [])).clause ≡ true → (r ≡ Err (not-refuted.StepRefused i)) ↔ (empty (get_or ss i (step [] [])).hints ≡ false)
   both_signs_refused ready i = signs_refused cs ss i (refused_13 i) ready
 
 -- ════════ The judge of a problem's refutation ════════
 
-module _ {version : ℕ} {ws : List ℕ} {refutation room : List ℤ} {numbers clauses : List ℕ} {r : Refuted} {room' : List ℤ} {numbers' clauses' : List ℕ}
+module _ {version : ℕ} {ws : List ℕ} {refutation room : List ℤ} {numbers clauses : List ℕ} {r : Result Unit Unrefuted} {room' : List ℤ} {numbers' clauses' : List ℕ}
     (call : JudgedAs version ws refutation room numbers clauses r room' numbers' clauses') where
   abbrev problem_cs : List Clause
   problem_cs = cnf (problem version ws)
@@ -108,24 +109,24 @@ module _ {version : ℕ} {ws : List ℕ} {refutation room : List ℤ} {numbers c
   abbrev AllReady : Type 0
   AllReady = ProblemReady version ws refutation (length room) (length numbers) (length clauses)
 
-  problem_answered : (a : Refuted) → judged (refuted_answer a) ≡ true → (r ≡ a) ↔ (AllReady × (judge_steps problem_cs problem_ss ≡ refuted_answer a))
+  problem_answered : (a : Result Unit Unrefuted) → judged (refuted_answer a) ≡ true → (r ≡ a) ↔ (AllReady × (judge_steps problem_cs problem_ss ≡ refuted_answer a))
   problem_answered a of_steps =
       let by_steps = past_problem (refuted_answer a) of_steps version ws refutation (length room) (length numbers) (length clauses) in (
         λ e. by_steps.0 (sym call.answered ∙ ap refuted_answer e),
         λ h. problem-unique.same_answer r a (call.answered ∙ by_steps.1 h),
       )
 
-  pub problem_refused_13 : (i : ℕ) → (r ≡ problem-judge.StepRefused i) ↔ (AllReady × FirstRefused problem_cs problem_ss i)
-  problem_refused_13 i = by_13 problem_cs problem_ss i (problem_answered (problem-judge.StepRefused i) refl)
+  pub problem_refused_13 : (i : ℕ) → (r ≡ Err (unrefuted.Refutation (not-refuted.StepRefused i))) ↔ (AllReady × FirstRefused problem_cs problem_ss i)
+  problem_refused_13 i = by_13 problem_cs problem_ss i (problem_answered (Err (unrefuted.Refutation (not-refuted.StepRefused i))) refl)
 
-  pub problem_refused_14 : (n : ℕ) → (r ≡ problem-judge.NotClosed n)
+  pub problem_refused_14 : (n : ℕ) → (r ≡ Err (unrefuted.Refutation (not-refuted.NotClosed n)))
       ↔ (AllReady × ((j : ℕ) → j < length problem_ss → passes problem_cs problem_ss j ≡ true) × (last_is_empty problem_ss ≡ false) × (n ≡ length problem_ss))
-  problem_refused_14 n = by_14 problem_cs problem_ss n (problem_answered (problem-judge.NotClosed n) refl)
+  problem_refused_14 n = by_14 problem_cs problem_ss n (problem_answered (Err (unrefuted.Refutation (not-refuted.NotClosed n))) refl)
 
-  pub problem_accepted_exactly : (r ≡ problem-judge.Yes)
+  pub problem_accepted_exactly : (r ≡ Ok tt)
       ↔ (AllReady × ((j : ℕ) → j < length problem_ss → passes problem_cs problem_ss j ≡ true) × (last_is_empty problem_ss ≡ true))
-  problem_accepted_exactly = by_yes problem_cs problem_ss (problem_answered problem-judge.Yes refl)
+  problem_accepted_exactly = by_yes problem_cs problem_ss (problem_answered (Ok tt) refl)
 
   pub problem_both_signs_refused : AllReady → (i : ℕ) → i < length problem_ss → ((j : ℕ) → j < i → passes problem_cs problem_ss j ≡ true)
-      → both_signs (get_or problem_ss i (step [] [])).clause ≡ true → (r ≡ problem-judge.StepRefused i) ↔ (empty (get_or problem_ss i (step [] [])).hints ≡ false)
+      → both_signs (get_or problem_ss i (step [] [])).clause ≡ true → (r ≡ Err (unrefuted.Refutation (not-refuted.StepRefused i))) ↔ (empty (get_or problem_ss i (step [] [])).hints ≡ false)
   problem_both_signs_refused ready i = signs_refused problem_cs problem_ss i (problem_refused_13 i) ready

@@ -6,6 +6,7 @@ use mathlib.Core.List.{List, [], ◌∷◌, ◌++◌}
 use Prim.Native.Nat.{ℕ, zero, suc, ◌+◌, ◌*◌}
 use native.Mathlib.Omega.{arith}
 use lib.{Dec.eqb, IntN.ℤ, ListN.length}
+use Rattle.std.specs.Prelude.{Result, Ok}
 use Rattle.answers.specs.Lists.{all_of, numbers, each, those}
 use Rattle.answers.specs.Answers.{Answer, Check, check, first_failing, first_failing_part, granted}
 use Rattle.answers.specs.Limits.{constraints_limit}
@@ -25,20 +26,18 @@ use Rattle.finder.specs.Calls.{finding_checks, first_found, find_witness, room_a
 use Rattle.counts.specs.declared.Counts.{Counts}
 use Rattle.counts.specs.Promise.{counts_of}
 use Rattle.problem.specs.declared.ProblemRecord.{ProblemRecord}
-use Rattle.problem.specs.declared.Checked.{Checked}
-use Rattle.problem.specs.declared.Checked.TheVariants.{Good}
+use Rattle.problem.specs.declared.Refusal.{Refusal}
 use Rattle.problem.specs.Promise as checking
 use Rattle.problem.specs.Promise.{CheckedAs}
-use Rattle.encoder.specs.declared.Encoded.{Encoded}
-use Rattle.encoder.specs.declared.Encoded.TheVariants.{Written}
+use Rattle.encoder.specs.declared.NotWritten.{NotWritten}
 use Rattle.encoder.specs.Promise as encoding
 use Rattle.encoder.specs.Promise.{EncodedAs}
-use Rattle.witness.specs.declared.WitnessAnswer.{WitnessAnswer}
+use Rattle.witness.specs.declared.NotWitness.{NotWitness}
 use Rattle.witness.specs.Promise as witnessing
-use Rattle.finder.specs.declared.Finding.{Finding}
+use Rattle.finder.specs.declared.NotFound.{NotFound}
 use Rattle.finder.specs.Promise as finding
 use Rattle.finder.specs.Promise.{FoundAs}
-use Rattle.checker.specs.declared.Refuted.{Refuted}
+use Rattle.checker.specs.declared.Unrefuted.{Unrefuted}
 use Rattle.checker.specs.Refutation.{refuted_answer, JudgedAs}
 use Rattle.demands.specs.VersionOne.{problem_in_01, check_in_01, check_problem_in_01}
 use Rattle.demands.specs.VersionOne.{L, A, N, five_words, within_limits, right_length, latch_right, gate_right, a_right, node_right}
@@ -217,20 +216,20 @@ module _ (a : Answer) (ws : List ℕ) where
 -- ════════ The running calls ════════
 
 module _ {ws : List ℕ} where
-  pub checked_in_version_1 : {r : Checked} → CheckedAs 1 ws r → checking.answer_of r ≡ check_problem_in_01 ws
+  pub checked_in_version_1 : {r : Result ProblemRecord Refusal} → CheckedAs 1 ws r → checking.answer_of r ≡ check_problem_in_01 ws
   checked_in_version_1 c = c.answered ∙ check_problem_in_version_1 ws
 
-  pub encoded_in_version_1 : {before after : List ℤ} {r : Encoded} → EncodedAs 1 ws before r after
+  pub encoded_in_version_1 : {before after : List ℤ} {r : Result Counts NotWritten} → EncodedAs 1 ws before r after
       → (encoding.answer_of r ≡ write_cnf_in_01 ws (length before)) × (after ≡ room_after_writing_in_01 (encoding.answer_of r) ws before)
   encoded_in_version_1 {before} {r = r} c =
       (c.answered ∙ writing_in_version_1 ws (length before), c.room_after ∙ room_written_in_version_1 (encoding.answer_of r) ws before)
 
-  pub found_in_version_1 : {before after : List ℕ} {r : Finding} → FoundAs 1 ws before r after
+  pub found_in_version_1 : {before after : List ℕ} {r : Result ℕ NotFound} → FoundAs 1 ws before r after
       → (finding.answer_of r ≡ find_witness_in_01 ws (length before)) × (after ≡ room_after_finding_in_01 (finding.answer_of r) ws before)
   found_in_version_1 {before} {r = r} c =
       (c.answered ∙ finding_in_version_1 ws (length before), c.room_after ∙ room_found_in_version_1 (finding.answer_of r) ws before)
 
-  pub refutation_judged_in_version_1 : {refutation room : List ℤ} {numbers clauses : List ℕ} {r : Refuted} {room' : List ℤ} {numbers' clauses' : List ℕ}
+  pub refutation_judged_in_version_1 : {refutation room : List ℤ} {numbers clauses : List ℕ} {r : Result Unit Unrefuted} {room' : List ℤ} {numbers' clauses' : List ℕ}
       → JudgedAs 1 ws refutation room numbers clauses r room' numbers' clauses'
       → (refuted_answer r ≡ judge_refutation_in_01 ws refutation (length room) (length numbers) (length clauses))
       × (room' ≡ room_after_judging_in_01 (refuted_answer r) ws room)
@@ -244,7 +243,7 @@ module _ {ws : List ℕ} where
   )
 
 -- The witness judge changes no buffer.
-pub run_judged_in_version_1 : (ws bs : List ℕ) (r : WitnessAnswer)
+pub run_judged_in_version_1 : (ws bs : List ℕ) (r : Result Unit NotWitness)
     → witnessing.answer_of r ≡ judge_witness 1 ws bs → witnessing.answer_of r ≡ judge_witness_in_01 ws bs
 run_judged_in_version_1 ws bs r answered = answered ∙ witness_in_version_1 ws bs
 
@@ -252,8 +251,8 @@ run_judged_in_version_1 ws bs r answered = answered ∙ witness_in_version_1 ws 
 counts_kept : (ws : List ℕ) → counts_of (problem 1 ws) ≡ counts_in_01 (problem_in_01 ws)
 counts_kept ws = rw (cnf_words_in_version_1 ws, cnf_in_version_1 ws, problem_in_version_1 ws)
 
-pub record_in_version_1 : {ws : List ℕ} {g : ProblemRecord} → CheckedAs 1 ws (Good g) → g.counts ≡ counts_in_01 (problem_in_01 ws)
+pub record_in_version_1 : {ws : List ℕ} {g : ProblemRecord} → CheckedAs 1 ws (Ok g) → g.counts ≡ counts_in_01 (problem_in_01 ws)
 record_in_version_1 {ws} c = c.counted ∙ counts_kept ws
 
-pub numbers_in_version_1 : {ws : List ℕ} {before after : List ℤ} {n : Counts} → EncodedAs 1 ws before (Written n) after → n ≡ counts_in_01 (problem_in_01 ws)
+pub numbers_in_version_1 : {ws : List ℕ} {before after : List ℤ} {n : Counts} → EncodedAs 1 ws before (Ok n) after → n ≡ counts_in_01 (problem_in_01 ws)
 numbers_in_version_1 {ws} c = c.numbered ∙ counts_kept ws

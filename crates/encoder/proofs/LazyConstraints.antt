@@ -7,6 +7,7 @@ use native.Mathlib.Omega.{arith}
 use lib.IntN.{ℤ, pos}
 use lib.ListN.{length, replicate, take}
 use lib.Seq.{take_at}
+use Rattle.std.specs.Prelude.{Result, Ok}
 use Rattle.answers.specs.Lists.{written}
 use Rattle.clauses.specs.Clauses.{Clause}
 use Rattle.clauses.specs.CnfWords.{words_of}
@@ -16,8 +17,7 @@ use Rattle.meaning.specs.Calls.{WellFormed, room_after_writing}
 use Rattle.meaning.proofs.Check.{proper_if_well_formed}
 use Rattle.counts.specs.declared.Counts.{Counts}
 use Rattle.problem.proofs.LazyCounts.{numbers_of}
-use Rattle.encoder.specs.declared.Encoded.{Encoded}
-use Rattle.encoder.specs.declared.Encoded.TheVariants.{Written}
+use Rattle.encoder.specs.declared.NotWritten.{NotWritten}
 use Rattle.encoder.specs.Promise.{EncodedAs}
 use Rattle.encoder.proofs.WrongConstraints.{after_resets, at_first_positions, by_constraint, over_position_0, false_as_true, after_resets_differs, fewer_words, by_constraint_differs, false_as_true_differs}
 use Rattle.encoder.proofs.Lazy.{Input, Meets, Breaks, laid_down, meets, other_word_breaks}
@@ -30,7 +30,7 @@ module _ (version : ℕ) (ws : List ℕ) (before : List ℤ) (n : Counts) where
 
   -- A writer that leaves these clauses, and says how many words they have, does not meet the promise.
   abbrev WritingBreaks : List Clause → Type 0
-  WritingBreaks cs = n.words ≡ length (words_of cs) → ¬ (EncodedAs version ws before (Written n) (written (words_of cs) before))
+  WritingBreaks cs = n.words ≡ length (words_of cs) → ¬ (EncodedAs version ws before (Ok n) (written (words_of cs) before))
 
   pub other_clauses_break : (cs : List Clause) → ¬ (words_of cs ≡ cnf_words p) → WritingBreaks cs
   unfolding room_after_writing
@@ -78,11 +78,11 @@ abbrev pub c_numbers : Counts
 c_numbers = numbers_of 14 41 128
 
 -- It begins (1), (-2) (-1), (-3) (-1), (-4) (-1), and then item 3, (-2).
-pub c_meets : Meets C (Written c_numbers) (written (cnf_words (problem 2 c_words)) (replicate 128 (pos 9)))
+pub c_meets : Meets C (Ok c_numbers) (written (cnf_words (problem 2 c_words)) (replicate 128 (pos 9)))
 unfolding laid_down header_words problem_by problem variables cnf cnf_words room_after_writing
-c_meets = meets C (Written c_numbers) refl refl
+c_meets = meets C (Ok c_numbers) refl refl
 
-module _ (r : Encoded) where
+module _ (r : Result Counts NotWritten) where
   -- These clauses in the room, from its start on.
   abbrev LeavingBreaks : List Clause → Type 0
   LeavingBreaks cs = Breaks C r (written (words_of cs) (replicate 128 (pos 9)))

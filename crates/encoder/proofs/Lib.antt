@@ -3,9 +3,6 @@ pub mod OneAfterAnother
 pub mod ForEachNumber
 pub mod ItemsWritten
 pub mod MachineLiterals
-pub mod VariableNumbers
-pub mod WithinLimits
-pub mod CircuitLiterals
 pub mod OpForms
 pub mod RoomAnswers
 pub mod Unique

@@ -6,44 +6,43 @@ use native.Mathlib.Nat.{zero-add}
 use borrow.Author.Tests.{le-leb, lt-leb, ne_eqb}
 use lib.IntN.{ℤ}
 use lib.ListN.{length}
+use Rattle.std.specs.Prelude.{Result, Ok, Err}
 use Rattle.answers.specs.Answers.{granted, room_too_small}
 use Rattle.clauses.specs.CnfWords.{words_of}
 use Rattle.meaning.specs.Problem as problems
 use Rattle.meaning.specs.Cnf.{cnf, cnf_words}
-use Rattle.meaning.specs.Calls.{room_after_writing}
+use Rattle.meaning.specs.Calls.{WellFormed, check_problem, room_after_writing}
 use Rattle.meaning.proofs.Check.{checked_if_well_formed}
 use Rattle.meaning.proofs.Calls.{write_cnf_is}
 use Rattle.counts.specs.declared.Counts.{Counts}
 use Rattle.counts.specs.Promise.{counts_of}
-use Rattle.problem.specs.declared.ProblemRecord.{ProblemRecord}
 use Rattle.problem.specs.declared.Refusal.{Refusal}
-use Rattle.problem.specs.declared.Checked.TheVariants.{Good, Refused}
-use Rattle.problem.specs.Promise.{CheckedAs, refusal_answer, problem_in}
+use Rattle.problem.specs.Promise.{refusal_answer}
 use Rattle.problem.proofs.Unique.{refusal_not_yes}
-use Rattle.problem.proofs.Formed.{well_formed_if_good, refused_whatever}
-use Rattle.encoder.specs.declared.Encoded.{Encoded}
-use Rattle.encoder.specs.declared.Encoded.TheVariants.{Written, Problem, RoomTooSmall}
+use Rattle.problem.proofs.Formed.{refused_whatever}
+use Rattle.encoder.specs.declared.NotWritten.{NotWritten}
+use Rattle.encoder.specs.declared.NotWritten.TheVariants.{Problem, RoomTooSmall}
 use Rattle.encoder.specs.Promise.{EncodedAs}
 use Rattle.encoder.specs.Writing.{Room, Wrote, RoomAnswered}
 
 -- ════════ The check ════════
 
 module _ {version : ℕ} {ws : List ℕ} where
-  pub encoded_if_good : {g : ProblemRecord} → CheckedAs version ws (Good g) → {before after : List ℤ} {r : Encoded}
-      → RoomAnswered (problem_in g.outline ws) before r after → EncodedAs version ws before r after
+  pub encoded_if_good : {p : problems.Problem} → WellFormed version ws × (p ≡ problems.problem version ws)
+      → {before after : List ℤ} {r : Result Counts NotWritten} → RoomAnswered p before r after → EncodedAs version ws before r after
   unfolding room_after_writing
   encoded_if_good good {before} a =
-      let answer = rw good.outlined.problem_is at a in
+      let answer = rw good.1 at a in
       record {
-        answered = answer.answered ∙ sym (write_cnf_is version ws (length before) ∙ checked_if_well_formed version ws _ (well_formed_if_good good));
+        answered = answer.answered ∙ sym (write_cnf_is version ws (length before) ∙ checked_if_well_formed version ws _ good.0);
         room_after = answer.room_after;
         numbered = answer.numbered;
       }
 
-  pub encoded_if_refused : {f : Refusal} → CheckedAs version ws (Refused f) → (before : List ℤ) → EncodedAs version ws before (Problem f) before
+  pub encoded_if_refused : {f : Refusal} → refusal_answer f ≡ check_problem version ws → (before : List ℤ) → EncodedAs version ws before (Err (Problem f)) before
   unfolding room_after_writing
   encoded_if_refused {f} refused before = record {
-    answered = refused_whatever version ws f _ refused.answered ∙ sym (write_cnf_is version ws (length before));
+    answered = refused_whatever version ws f _ refused ∙ sym (write_cnf_is version ws (length before));
     room_after = rw (ne_eqb (refusal_answer f).number 0 (refusal_not_yes f));
     numbered = tt;
   }
@@ -55,15 +54,15 @@ module _ (p : problems.Problem) {before : List ℤ} where
   unfolding cnf_words
   room_suffices e h = record { fits = rw (zero-add, ← e) h }
 
-  pub too_small : {n : ℕ} → n ≡ length (cnf_words p) → length before < n → RoomAnswered p before (RoomTooSmall n) before
+  pub too_small : {n : ℕ} → n ≡ length (cnf_words p) → length before < n → RoomAnswered p before (Err (RoomTooSmall n)) before
   too_small e h = record {
     answered = rw (lt-leb (length (cnf_words p)) (length before) (rw e at h)) (ap room_too_small e);
     room_after = refl;
     numbered = tt;
   }
 
-  -- The numbers of the record are those of what was written.
-  pub all_written : {n : Counts} → n ≡ counts_of p → {after : List ℤ} {r : ℕ} → Wrote 0 (words_of (cnf p)) before after r → RoomAnswered p before (Written n) after
+  -- The numbers of the problem are those of what was written.
+  pub all_written : {n : Counts} → n ≡ counts_of p → {after : List ℤ} {r : ℕ} → Wrote 0 (words_of (cnf p)) before after r → RoomAnswered p before (Ok n) after
   unfolding cnf_words
   all_written counted w = record {
     answered = rw (le-leb (length (words_of (cnf p))) (length before) (rw zero-add at w.fits)) (ap (λ (c : Counts). granted c.words) counted);

@@ -4,10 +4,9 @@ use Rattle.answers.specs.Lists.{numbers, each}
 use Rattle.clauses.specs.Clauses.{Clause, negated}
 use Rattle.meaning.specs.Problem.{Problem, Node, latch, atom, both, either, next, until, release}
 use Rattle.meaning.specs.Cnf.{equal_form, or_form, and_form, until_form, release_form, positions, selector, literal_at, left_at, latch_at, next_at, latch_numbers, gate_clauses, constraint_unit, reset_unit, closing_clauses, P, p_clauses, q_clauses, e_clauses}
-use Rattle.problem.specs.declared.Outline.{Outline}
 use Rattle.encoder.specs.declared.forms.OpForm.{OpForm}
 use Rattle.encoder.specs.declared.forms.OpForm.TheVariants.{Equal, And, Or, Until, Release}
-use Rattle.encoder.specs.Numbering.{Sized, Negatable}
+use Rattle.encoder.specs.Numbering.{Negatable}
 
 -- Item 6: "(-s(l) -s(m))".
 abbrev pub excluded_pair : ℤ → ℤ → List Clause
@@ -37,6 +36,10 @@ reset_clauses p i = reset_unit (latch p i).reset (latch_at p 0 i)
 abbrev pub selectors_after : Problem → ℕ → List Clause
 selectors_after p l = each (numbers (l + 1) (p.bound - l)) (λ m. excluded_pair (selector p l) (selector p m))
 
+-- .. and of the selector i places after the next one.
+abbrev pub pair_after : Problem → ℕ → ℕ → List Clause
+pair_after p l i = excluded_pair (selector p l) (selector p (l + 1 + i))
+
 -- ════════ Item 7 of one node ════════
 
 -- x has the op's form over the children at i; U and R end with y.
@@ -63,9 +66,9 @@ NegatableForm (Or a b) = Negatable a × Negatable b
 NegatableForm (Until a b) = Negatable a × Negatable b
 NegatableForm (Release a b) = Negatable a × Negatable b
 
--- The op's form over the children at i, for each problem of the outline's width and bound.
-pub record FormOf (s : Outline) (node : Node) (i : ℕ) (f : OpForm) : Type 0 where
-  pub is : (p : Problem) → Sized s p → (x y : ℤ) → form_over f x y ≡ form_clauses p x node i y
+-- The op's form over the children at i.
+pub record FormOf (p : Problem) (node : Node) (i : ℕ) (f : OpForm) : Type 0 where
+  pub is : (x y : ℤ) → form_over f x y ≡ form_clauses p x node i y
   pub negatable : NegatableForm f
 
 -- P and Q at a position, at all of them, and the clauses of E, of a node x with the number n.
@@ -77,7 +80,3 @@ values_of p n x = each (positions p) (value_clauses p n x)
 
 abbrev pub ends_of : Problem → ℕ → Node → List Clause
 ends_of p n x = each (positions p) (e_clauses p n x)
-
--- Item 8 of a problem with so many nodes.
-abbrev pub formula_unit : Problem → ℕ → List Clause
-formula_unit p nodes = (P p (nodes - 1) 0 ∷ []) ∷ []

@@ -3,3 +3,4 @@ pub mod Promise
 pub mod Numbering
 pub mod Writing
 pub mod ItemParts
+pub mod Each

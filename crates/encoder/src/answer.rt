@@ -1,26 +1,29 @@
-// Document 01's number and place of each outcome of writing.
+// Document 01's row of each refusal to write.
 ghost use Rattle.std.specs.Prelude.{◌≡◌};
-ghost use Rattle.encoder.specs.Promise.{answer_of};
+ghost use Rattle.answers.specs.Table.{row_of};
+ghost use Rattle.encoder.specs.Promise.{answer_of, not_written_answer};
 
-use crate::Encoded;
-use problem::answer::{refusal_number, refusal_place};
+use crate::NotWritten;
+use answers::answer::Answer;
+use counts::Counts;
 
-pub fn number(a: Encoded) -> u32
-    ensures { result ≡ (answer_of a).number }
-{
-    match a {
-        Encoded::Written(_) => 0,
-        Encoded::Problem(f) => refusal_number(f),
-        Encoded::RoomTooSmall(_) => 6,
+impl From<NotWritten> for Answer {
+    ghost from_gives = { λ e a. row_of a ≡ not_written_answer e };
+
+    fn from(e: NotWritten) -> Answer {
+        match e {
+            NotWritten::Problem(f) => Answer::from(f),
+            NotWritten::RoomTooSmall(n) => Answer::new(6, n),
+        }
     }
 }
 
-pub fn place(a: Encoded) -> usize
-    ensures { result ≡ (answer_of a).place }
+// The row of what writing answers.
+pub fn answer(r: Result<Counts, NotWritten>) -> Answer
+    ensures { row_of result ≡ answer_of r }
 {
-    match a {
-        Encoded::Written(n) => n.words,
-        Encoded::Problem(f) => refusal_place(f),
-        Encoded::RoomTooSmall(n) => n,
+    match r {
+        Ok(n) => Answer::new(0, n.words),
+        Err(f) => Answer::from(f),
     }
 }

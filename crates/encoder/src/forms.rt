@@ -6,7 +6,7 @@ ghost use Rattle.encoder.specs.Numbering.{Negatable};
 ghost use Rattle.encoder.specs.Writing.{Room, Wrote};
 ghost use Rattle.encoder.specs.ItemParts.{form_over, NegatableForm, excluded_pair};
 
-use crate::write::{clause2, clause3};
+use crate::write::clause;
 
 // An op's form over its children, which are literals by now; Until and Release end with one more.
 #[derive(Clone, Copy)]
@@ -23,8 +23,8 @@ pub(crate) fn equal_form(room: &mut [i32], at: usize, x: i32, a: i32) -> usize
     requires { (at + 6 ≤ length room.old) × Negatable x × Negatable a }
     ensures { Wrote at (words_of (equal_form x a)) room.old room.new result }
 {
-    let next = clause2(room, at, -x, a);
-    clause2(room, next, x, -a)
+    let next = clause(room, at, &[-x, a]);
+    clause(room, next, &[x, -a])
 }
 
 // x=a or b: (x -a)(x -b)(-x a b)
@@ -32,9 +32,9 @@ pub(crate) fn or_form(room: &mut [i32], at: usize, x: i32, a: i32, b: i32) -> us
     requires { (at + 10 ≤ length room.old) × Negatable x × Negatable a × Negatable b }
     ensures { Wrote at (words_of (or_form x a b)) room.old room.new result }
 {
-    let second = clause2(room, at, x, -a);
-    let third = clause2(room, second, x, -b);
-    clause3(room, third, -x, a, b)
+    let second = clause(room, at, &[x, -a]);
+    let third = clause(room, second, &[x, -b]);
+    clause(room, third, &[-x, a, b])
 }
 
 // x=a and b is -x=-a or -b.
@@ -50,10 +50,10 @@ pub(crate) fn until_form(room: &mut [i32], at: usize, x: i32, a: i32, b: i32, y:
     requires { (at + 15 ≤ length room.old) × Negatable x × Negatable a × Negatable b × Negatable y }
     ensures { Wrote at (words_of (until_form x a b y)) room.old room.new result }
 {
-    let second = clause2(room, at, x, -b);
-    let third = clause3(room, second, x, -a, -y);
-    let fourth = clause3(room, third, -x, b, a);
-    clause3(room, fourth, -x, b, y)
+    let second = clause(room, at, &[x, -b]);
+    let third = clause(room, second, &[x, -a, -y]);
+    let fourth = clause(room, third, &[-x, b, a]);
+    clause(room, fourth, &[-x, b, y])
 }
 
 // Release(x,a,b,y) is Until(-x,-a,-b,-y).
@@ -83,8 +83,8 @@ pub(crate) fn guarded_form(room: &mut [i32], at: usize, s: i32, x: i32, a: i32) 
     requires { (at + 8 ≤ length room.old) × Negatable s × Negatable x × Negatable a }
     ensures { Wrote at (words_of (guarded_form s x a)) room.old room.new result }
 {
-    let next = clause3(room, at, -s, -x, a);
-    clause3(room, next, -s, x, -a)
+    let next = clause(room, at, &[-s, -x, a]);
+    clause(room, next, &[-s, x, -a])
 }
 
 // At most one of two selectors: (-s -m)
@@ -92,5 +92,5 @@ pub(crate) fn excluded_pair(room: &mut [i32], at: usize, s: i32, m: i32) -> usiz
     requires { (at + 3 ≤ length room.old) × Negatable s × Negatable m }
     ensures { Wrote at (words_of (excluded_pair s m)) room.old room.new result }
 {
-    clause2(room, at, -s, -m)
+    clause(room, at, &[-s, -m])
 }

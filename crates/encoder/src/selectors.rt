@@ -1,49 +1,41 @@
 // Item 6 of the CNF: at most one selector is true.
-ghost use Rattle.std.specs.Prelude.{◌+◌, ◌<◌, ◌≤◌, length};
+ghost use Rattle.std.specs.Prelude.{◌+◌, ◌<◌, ◌≤◌};
 ghost use Rattle.clauses.specs.CnfWords.{words_of};
-ghost use Rattle.meaning.specs.Cnf.{selector, selectors_item};
-ghost use Rattle.encoder.specs.Numbering.{Small};
-ghost use Rattle.encoder.specs.Writing.{RoomFor, WroteFor};
-ghost use Rattle.encoder.specs.ItemParts.{excluded_pair, selectors_after};
+ghost use Rattle.meaning.specs.Cnf.{selectors_item};
+ghost use Rattle.meaning.specs.Proper.{Proper};
+ghost use Rattle.encoder.specs.Writing.{Room, Wrote};
+ghost use Rattle.encoder.specs.ItemParts.{pair_after, selectors_after};
 
+use crate::each::{each, positions};
 use crate::forms::excluded_pair;
 use crate::literals::selector;
-use problem::Outline;
+use problem::good::Problem;
 
-// One pair l < m.
-fn pair(s: Outline, room: &mut [i32], at: usize, l: u32, m: u32) -> usize
-    requires { Small s × (l < m) × (m ≤ s.bound) × (at + 3 ≤ length room.old) }
-    ensures { WroteFor s at (λ p. words_of (excluded_pair (selector p l) (selector p m))) room.old room.new result }
+// The pair of l and the selector i places after the next one.
+#[tactic(auto, unfolding(answers::specs::Limits::bound_limit))]
+fn pair(p: &Problem, room: &mut [i32], at: usize, l: u32, i: u32) -> usize
+    requires { Proper p.now × (l + 1 + i ≤ p.now.bound) × Room at (pair_after p.now l i) room.old }
+    ensures { Wrote at (words_of (pair_after p.now l i)) room.old room.new result }
 {
-    let first = selector(s, l);
-    let second = selector(s, m);
+    let first = selector(p, l);
+    let second = selector(p, l + 1 + i);
     excluded_pair(room, at, first, second)
 }
 
 // The pairs of l: the selectors after it are l + 1 and so on, k - l of them.
-fn pairs_of(s: Outline, room: &mut [i32], at: usize, l: u32) -> usize
-    requires { Small s × (l ≤ s.bound) × RoomFor s at (λ p. selectors_after p l) room.old }
-    ensures { WroteFor s at (λ p. words_of (selectors_after p l)) room.old room.new result }
+fn pairs_of(p: &Problem, room: &mut [i32], at: usize, l: u32) -> usize
+    requires { (l ≤ p.now.bound) × Room at (selectors_after p.now l) room.old }
+    ensures { Wrote at (words_of (selectors_after p.now l)) room.old room.new result }
 {
-    let mut next = at;
-    let mut i: u32 = 0;
-    while i < s.bound - l {
-        next = pair(s, room, next, l, l + 1 + i);
-        i += 1;
-    }
-    next
+    let n = p.bound() - l;
+    each(n, room, at, |room, at, i| pair(p, room, at, l, i))
 }
 
 // "6. l < m, by l then m: (-s(l) -s(m))."
-pub(crate) fn selectors(s: Outline, room: &mut [i32], at: usize) -> usize
-    requires { Small s × RoomFor s at selectors_item room.old }
-    ensures { WroteFor s at (λ p. words_of (selectors_item p)) room.old room.new result }
+pub(crate) fn selectors(p: &Problem, room: &mut [i32], at: usize) -> usize
+    requires { Room at (selectors_item p.now) room.old }
+    ensures { Wrote at (words_of (selectors_item p.now)) room.old room.new result }
 {
-    let mut next = at;
-    let mut l: u32 = 0;
-    while l <= s.bound {
-        next = pairs_of(s, room, next, l);
-        l += 1;
-    }
-    next
+    let n = positions(p);
+    each(n, room, at, |room, at, l| pairs_of(p, room, at, l))
 }

@@ -2,7 +2,7 @@
 use mathlib.Core.List.{List, [], ◌∷◌, ◌++◌}
 use mathlib.Core.Path.{◌≡◌, refl, sym, ap, ap₂, ◌∙◌}
 use Prim.Native.Nat.{ℕ, zero, suc, ◌+◌, ◌-◌, ◌/◌, ◌%◌, ◌^◌, ◌<◌, ◌≤◌, zero-le}
-use native.Mathlib.Nat.{zero-add, add_comm, suc-add, div-one, div-div-eq-div-mul, le_of_suc-le-suc, not-suc-le-zero}
+use native.Mathlib.Nat.{zero-add, add_comm, suc-add, div-div-eq-div-mul, le_of_suc-le-suc, not-suc-le-zero}
 use native.Mathlib.Numerals.{add-one}
 use native.Mathlib.Omega.{arith}
 use lib.ListN.{length, get_or, drop, replicate, length-append, length-map, length-replicate, get_or-map}
@@ -24,9 +24,6 @@ pub halved : (m j : ℕ) → m / 2 ^ j / 2 ≡ m / 2 ^ (j + 1)
 halved m j = shifted m j 1
 
 -- A loop that takes the digits one by one, the lowest first.
-pub none_taken : (m : ℕ) {j : ℕ} → j ≡ 0 → m ≡ m / 2 ^ j
-none_taken m e = sym (rw e (div-one m))
-
 module _ (m j : ℕ) {rest : ℕ} (left : rest ≡ m / 2 ^ j) where
   pub next_digit : {k : ℕ} → k ≡ j → rest % 2 ≡ digit m k
   next_digit e = rw (e, left)

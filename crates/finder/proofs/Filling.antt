@@ -1,10 +1,12 @@
 -- The bits of a run put into its table: the inputs position by position from the last down, and then the latches. Assumes nothing.
+use Rattle.finder.specs.declared.run.TheConstants.{GIVEN}
+use Rattle.values.specs.declared.rows.TheConstants.{POSITIONS}
 use mathlib.Core.Bool.{Bool, false}
 use mathlib.Core.List.{List, [], ◌++◌}
 use mathlib.Core.Logic.{⊎_elim}
 use mathlib.Core.Path.{◌≡◌, ap, subst, ◌∙◌}
 use Prim.Native.Nat.{ℕ, zero, suc, ◌+◌, ◌-◌, ◌*◌, ◌/◌, ◌^◌, ◌≤◌, ◌<◌}
-use native.Mathlib.Nat.{eq-or-lt_of_le, mul-le-mul_left, mul-zero, sub_self, sub-zero}
+use native.Mathlib.Nat.{eq-or-lt_of_le, mul-le-mul_left, sub-zero}
 use native.Mathlib.Decide.{ℕ_discrete}
 use native.Mathlib.Omega.{arith}
 use lib.Dec.{eqb}
@@ -13,16 +15,13 @@ use lib.Seq.{get_or-set_same, get_or-set_other, get_or-append-add}
 use Rattle.answers.specs.Limits.{bound_limit}
 use Rattle.meaning.specs.Problem.{Problem}
 use Rattle.meaning.specs.Witnesses.{byte}
-use Rattle.problem.specs.declared.Outline.{Outline}
-use Rattle.problem.proofs.Outlines.{Shows}
-use Rattle.values.specs.Tables.{positions_limit}
-use Rattle.finder.specs.Runs.{Held, Filled, given_limit, digit, resets, bytes_by, run_bytes, bit}
-use Rattle.finder.proofs.Digits.{none_taken, shifted, digit_shifted, length_bytes_by, bytes_by_joined, input_byte, length_resets}
+use Rattle.finder.specs.Runs.{Held, Filled, digit, resets, bytes_by, run_bytes, bit}
+use Rattle.finder.proofs.Digits.{shifted, digit_shifted, length_bytes_by, bytes_by_joined, input_byte, length_resets}
 
 -- ════════ Rows ════════
 
 -- A row of the same length in the place of another.
-module _ {run : List (List Bool)} (held : Held run) (t : ℕ) (row : List Bool) (long : length row ≡ length (get_or run t [])) (l : t < positions_limit) where
+module _ {run : List (List Bool)} (held : Held run) (t : ℕ) (row : List Bool) (long : length row ≡ length (get_or run t [])) (l : t < POSITIONS) where
   row_there : get_or (set run t row) t [] ≡ row
   row_there = get_or-set_same run t row [] (omega (arith, held.rows_there))
 
@@ -32,7 +31,7 @@ module _ {run : List (List Bool)} (held : Held run) (t : ℕ) (row : List Bool) 
     bits_there = λ u h. at_row u h (ℕ_discrete u t);
   }
     where
-      at_row : (u : ℕ) → u < positions_limit → Dec (u ≡ t) → length (get_or (set run t row) u []) ≡ given_limit
+      at_row : (u : ℕ) → u < POSITIONS → Dec (u ≡ t) → length (get_or (set run t row) u []) ≡ GIVEN
       at_row u h (yes e) = rw (e, row_there) (long ∙ held.bits_there t l)
       at_row u h (no ne) = rw (get_or-set_other run t u row [] ne) (held.bits_there u h)
 
@@ -60,21 +59,13 @@ one_more : (inputs n k : ℕ) → k ≡ n + 1 → inputs * n + inputs ≡ inputs
 one_more inputs n k e = rw e (omega arith)
 
 module _ {inputs bound m : ℕ} where
-  pub no_inputs : {run : List (List Bool)} → Held run → InputsFrom inputs bound m (bound + 1) m run
-  no_inputs held = record {
-    within = omega arith;
-    left = none_taken m (rw (sub_self (bound + 1)) (mul-zero inputs));
-    held = held;
-    there = λ u i h k l. absurd (omega arith);
-  }
-
   -- The position before them.
   module _ {t rest result : ℕ} {run : List (List Bool)} (from : InputsFrom inputs bound m t rest run) (small : bound ≤ bound_limit) (at : ℕ) (last : at + 1 ≡ t)
       (row : List Bool) (long : length row ≡ length (get_or run at []))
       (above : result ≡ rest / 2 ^ inputs) (bits : (i : ℕ) → i < inputs → get_or row i false ≡ eqb (digit rest (inputs - 1 - i)) 1)
     where
-      within_limit : at < positions_limit
-      unfolding positions_limit
+      within_limit : at < POSITIONS
+      unfolding bound_limit
       within_limit = omega (arith, from.within)
 
       bit_right : (i : ℕ) → i < inputs → bit (set run at row) at i ≡ eqb (digit m (inputs * (bound + 1) - 1 - (inputs * at + i))) 1
@@ -132,27 +123,25 @@ module _ (p : Problem) (m : ℕ) where
 -- ════════ The table ════════
 
 -- The latches of the first position, put beside its inputs.
-pub filled : {s : Outline} {p : Problem} → Shows s p → (m : ℕ) {digits : ℕ} {run : List (List Bool)} → Held run
-    → ((t i : ℕ) → t ≤ s.bound → i < s.inputs → bit run t i ≡ eqb (digit m (s.inputs * (s.bound + 1) - 1 - (s.inputs * t + i))) 1)
-    → digits ≡ m / 2 ^ (s.inputs * (s.bound + 1))
+pub filled : {p : Problem} (m : ℕ) {digits : ℕ} {run : List (List Bool)} → Held run
+    → ((t i : ℕ) → t ≤ p.bound → i < p.inputs → bit run t i ≡ eqb (digit m (p.inputs * (p.bound + 1) - 1 - (p.inputs * t + i))) 1)
+    → digits ≡ m / 2 ^ (p.inputs * (p.bound + 1))
     → (row : List Bool) → length row ≡ length (get_or run 0 [])
-    → ((i : ℕ) → i < s.latches → get_or row (s.inputs + i) false ≡ eqb (byte (bytes_by (resets p) digits) i) 1)
-    → ((i : ℕ) → i < s.inputs → get_or row i false ≡ bit run 0 i)
+    → ((i : ℕ) → i < length p.latches → get_or row (p.inputs + i) false ≡ eqb (byte (bytes_by (resets p) digits) i) 1)
+    → ((i : ℕ) → i < p.inputs → get_or row i false ≡ bit run 0 i)
     → Filled p m (set run 0 row)
-unfolding positions_limit
-filled {s} {p} z m {run = run} held right above row long latches kept = record {
+filled {p} m {run = run} held right above row long latches kept = record {
   held = held_set held 0 row long first;
   inputs_right = λ t i h l.
-      let e = right t i (omega (arith, z.bound_is)) (omega (arith, z.inputs_are)) in
-      rw (byte_of_input p m t i h l, z.inputs_are, z.bound_is) (same t i (omega (arith, z.inputs_are)) ∙ e);
+      rw (byte_of_input p m t i h l) (same t i l ∙ right t i h l);
   latches_right = λ i l.
       bit_set held 0 row long first (p.inputs + i)
-      ∙ rw (latch_byte p m i l, z.inputs_are, z.bound_is, ← above) (latches i (omega (arith, z.latches_are)));
+      ∙ rw (latch_byte p m i l, ← above) (latches i l);
 }
   where
-    first : 0 < positions_limit
+    first : 0 < POSITIONS
     first = omega arith
 
-    same : (t i : ℕ) → i < s.inputs → bit (set run 0 row) t i ≡ bit run t i
+    same : (t i : ℕ) → i < p.inputs → bit (set run 0 row) t i ≡ bit run t i
     same zero i l = bit_set held 0 row long first i ∙ kept i l
     same (suc t) i l = bit_other run 0 row (suc t) i (omega arith)

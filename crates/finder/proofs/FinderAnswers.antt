@@ -1,8 +1,12 @@
 -- What the finder answers: the check's refusal, 17, 18, or what the list of witnesses says, with the room after it. Assumes nothing.
+use Rattle.std.specs.Result.{IsErrAnd}
+use Rattle.std.proofs.Common.{Result, Ok, Err}
 use mathlib.Core.Path.{◌≡◌, refl, sym, ◌∙◌, ap}
 use mathlib.Core.Bool.{cond}
 use mathlib.Core.List.{List, [], ◌∷◌}
-use Prim.Native.Nat.{ℕ, ◌<◌, ◌≤◌}
+use Prim.Native.Nat.{ℕ, ◌*◌, ◌%◌, ◌^◌, ◌<◌, ◌≤◌}
+use native.Mathlib.Nat.{one-mul, pow-le-pow_right, mod-eq_of_lt}
+use native.Mathlib.Omega.{arith}
 use borrow.Author.Tests.{le-leb, lt-leb, ne_eqb}
 use lib.Dec.{eqb}
 use lib.ListN.{length}
@@ -12,51 +16,59 @@ use Rattle.answers.specs.Limits.{search_limit}
 use Rattle.finder.specs.Calls.{too_much_open, witness_room_too_small, none_exists, open_bytes, first_found, with_first, room_after_finding}
 use Rattle.meaning.specs.Problem as problems
 use Rattle.meaning.specs.Witnesses.{witness_length}
-use Rattle.meaning.specs.Calls.{witnesses}
+use Rattle.meaning.specs.Calls.{WellFormed, check_problem, witnesses}
 use Rattle.meaning.proofs.Check.{checked_if_well_formed}
 use Rattle.finder.proofs.FindingOrder.{find_witness_is}
 use Rattle.pairing.proofs.FirstWitness.{first_witness}
-use Rattle.problem.specs.declared.ProblemRecord.{ProblemRecord}
 use Rattle.problem.specs.declared.Refusal.{Refusal}
-use Rattle.problem.specs.declared.Checked.TheVariants.{Good, Refused}
-use Rattle.problem.specs.Promise.{CheckedAs, refusal_answer, problem_in}
+use Rattle.problem.specs.Promise.{refusal_answer}
 use Rattle.problem.proofs.Unique.{refusal_not_yes}
-use Rattle.problem.proofs.Formed.{well_formed_if_good, refused_whatever}
-use Rattle.finder.specs.declared.Finding.{Finding}
-use Rattle.finder.specs.declared.Finding.TheVariants.{Problem, TooMuchOpen, RoomTooSmall}
+use Rattle.problem.proofs.Formed.{refused_whatever}
+use Rattle.finder.specs.declared.NotFound.{NotFound}
+use Rattle.finder.specs.declared.NotFound.TheVariants.{Problem, TooMuchOpen, RoomTooSmall}
 use Rattle.finder.specs.Promise.{answer_of, FoundIn, FoundAs}
 
 -- ════════ The check ════════
 
-module _ {version : ℕ} {ws : List ℕ} where
-  pub found_if_good : {g : ProblemRecord} → CheckedAs version ws (Good g) → {before after : List ℕ} {r : Finding}
-      → FoundIn (problem_in g.outline ws) before r after → FoundAs version ws before r after
-  unfolding room_after_finding
-  found_if_good good {before} a =
-      let found = rw good.outlined.problem_is at a in
-      record {
-        answered = found.answered ∙ sym (find_witness_is version ws (length before) ∙ checked_if_well_formed version ws _ (well_formed_if_good good));
-        room_after = found.room_after;
-      }
+-- `?` makes it a refusal of the finder.
+pub refused_as : {f : Refusal} (r : Result ℕ NotFound) → IsErrAnd r (λ e. e ≡ Problem f) → r ≡ Err (Problem f)
+refused_as (Ok n) h = absurd h
+refused_as (Err e) h = ap (λ x. Err x) h
 
-  pub found_if_refused : {f : Refusal} → CheckedAs version ws (Refused f) → (before : List ℕ) → FoundAs version ws before (Problem f) before
+module _ {version : ℕ} {ws : List ℕ} where
+  pub found_if_good : WellFormed version ws → {before after : List ℕ} {r : Result ℕ NotFound}
+      → FoundIn (problems.problem version ws) before r after → FoundAs version ws before r after
+  unfolding room_after_finding
+  found_if_good formed {before} found = record {
+    answered = found.answered ∙ sym (find_witness_is version ws (length before) ∙ checked_if_well_formed version ws _ formed);
+    room_after = found.room_after;
+  }
+
+  pub found_if_refused : {f : Refusal} → refusal_answer f ≡ check_problem version ws → (before : List ℕ)
+      → FoundAs version ws before (Err (Problem f)) before
   unfolding room_after_finding
   found_if_refused {f} refused before = record {
-    answered = refused_whatever version ws f _ refused.answered ∙ sym (find_witness_is version ws (length before));
+    answered = refused_whatever version ws f _ refused ∙ sym (find_witness_is version ws (length before));
     room_after = rw (ne_eqb (refusal_answer f).number 0 (refusal_not_yes f));
   }
 
 -- ════════ 17, 18 and the search ════════
 
+-- Each open byte is 0 or 1: so many runs are a number of four bytes.
+pub all_runs : {m n : ℕ} → m ≡ n → m ≤ 16 → 1 * 2 ^ m % 4294967296 ≡ 2 ^ n
+all_runs {m} e few =
+    let small : 2 ^ m ≤ 2 ^ 16 = pow-le-pow_right {n = 2} (omega arith) few in
+    mod-eq_of_lt {n = 1 * 2 ^ m} {m = 4294967296} (omega arith) ∙ rw (one-mul, e)
+
 module _ (p : problems.Problem) {before : List ℕ} where
-  pub too_much : {n : ℕ} → n ≡ open_bytes p → search_limit < n → FoundIn p before (TooMuchOpen n) before
+  pub too_much : {n : ℕ} → n ≡ open_bytes p → search_limit < n → FoundIn p before (Err (TooMuchOpen n)) before
   too_much e h = record {
     answered = rw (lt-leb (open_bytes p) search_limit (rw e at h)) (ap too_much_open e);
     room_after = refl;
   }
 
   module _ {m n : ℕ} (m-is : m ≡ open_bytes p) (few : m ≤ search_limit) (n-is : n ≡ witness_length p) where
-    pub too_small : length before < n → FoundIn p before (RoomTooSmall n) before
+    pub too_small : length before < n → FoundIn p before (Err (RoomTooSmall n)) before
     too_small h = record {
       answered =
           rw (le-leb (open_bytes p) search_limit (rw m-is at few), lt-leb (witness_length p) (length before) (rw n-is at h)) (ap witness_room_too_small n-is);
@@ -64,7 +76,7 @@ module _ (p : problems.Problem) {before : List ℕ} where
     }
 
     -- The room is as the list of witnesses says: with none it stays.
-    pub searched : n ≤ length before → {r : Finding} {after : List ℕ} → answer_of r ≡ first_found (witnesses p) → after ≡ with_first (witnesses p) before
+    pub searched : n ≤ length before → {r : Result ℕ NotFound} {after : List ℕ} → answer_of r ≡ first_found (witnesses p) → after ≡ with_first (witnesses p) before
         → FoundIn p before r after
     searched fits {r} {after} e room = record {
       answered = rw (le-leb (open_bytes p) search_limit (rw m-is at few), le-leb (witness_length p) (length before) (rw n-is at fits)) e;

@@ -1,4 +1,5 @@
 -- The best of all runs is the first witness, and where no run is one there is none. Assumes nothing.
+use Rattle.std.proofs.Common.{None}
 use mathlib.Core.Path.{◌≡◌, refl, sym, ◌∙◌, ap, fun_ext}
 use mathlib.Core.Bool.{Bool, true, false, cond}
 use mathlib.Core.List.{List, [], ◌∷◌, ◌++◌, map, map-map}
@@ -18,7 +19,7 @@ use Rattle.meaning.specs.Calls.{accepted, witnesses}
 use Rattle.meaning.proofs.Numbers.{numbers_append, each_append}
 use Rattle.finder.specs.declared.search.Best.{Best}
 use Rattle.finder.specs.Runs.{resets, slots, bytes_by, run_bytes}
-use Rattle.finder.specs.Search.{BestOf}
+use Rattle.finder.specs.Search.{IsBest, BestOf}
 use Rattle.finder.proofs.Accepted.{accepted_meets}
 use Rattle.finder.proofs.InOrder.{meets, those_map, runs_in_order, open_is_free}
 
@@ -127,18 +128,20 @@ module _ {p : Problem} (good : Proper p) where
 
 -- ════════ The best ════════
 
-module _ {p : Problem} (good : Proper p) {best : Best} (of-all : BestOf p (2 ^ open_bytes p) best) where
-  -- A first byte that is lower makes no run a witness.
-  none_with : (b : ℕ) → b < best.first → with_byte p b ≡ []
-  none_with b l =
-      none_of_each (λ m. one_if p (b ∷ run_bytes p m)) 0 (2 ^ open_bytes p) (λ m q. rw (zero-add, of-all.none_lower m b q l))
+module _ {p : Problem} (good : Proper p) where
+  -- A first byte that makes no run a witness.
+  none_with : (b : ℕ) → ((m : ℕ) → m < 2 ^ open_bytes p → accepted p (b ∷ run_bytes p m) ≡ false) → with_byte p b ≡ []
+  none_with b none = none_of_each (λ m. one_if p (b ∷ run_bytes p m)) 0 (2 ^ open_bytes p) (λ m q. rw (zero-add, none m q))
 
-  pub best_is_first : best.first < p.bound + 2 → (rest : List (List ℕ)) × (witnesses p ≡ (best.first ∷ run_bytes p best.run) ∷ rest)
-  best_is_first found =
-      let one : one_if p (best.first ∷ run_bytes p best.run) ≡ (best.first ∷ run_bytes p best.run) ∷ [] = rw (of-all.is_one found) in
-      let run = first_of_each (λ m. one_if p (best.first ∷ run_bytes p m)) best.run (of-all.run_there found) (λ m l. rw (of-all.none_before m found l)) one in
-      let first = first_of_each (with_byte p) best.first found none_with run.1 in
+  pub best_is_first : {best : Best} → IsBest p (2 ^ open_bytes p) best
+      → (rest : List (List ℕ)) × (witnesses p ≡ (best.first ∷ run_bytes p best.run) ∷ rest)
+  best_is_first {best} found =
+      let one : one_if p (best.first ∷ run_bytes p best.run) ≡ (best.first ∷ run_bytes p best.run) ∷ [] = rw found.is_one in
+      let run = first_of_each (λ m. one_if p (best.first ∷ run_bytes p m)) best.run found.run_there (λ m l. rw (found.none_before m l)) one in
+      let within : best.first < p.bound + 2 = omega (arith, found.within) in
+      let first = first_of_each (with_byte p) best.first within (λ b l. none_with b (λ m q. found.none_lower m q b l)) run.1 in
       (first.0, by_runs good ∙ first.1)
 
-  pub best_is_none : best.first ≡ p.bound + 2 → witnesses p ≡ []
-  best_is_none e = by_runs good ∙ none_of_each (with_byte p) 0 (p.bound + 2) (λ b l. rw zero-add (none_with b (rw e l)))
+  pub best_is_none : BestOf p (2 ^ open_bytes p) None → witnesses p ≡ []
+  best_is_none none =
+      by_runs good ∙ none_of_each (with_byte p) 0 (p.bound + 2) (λ b l. rw zero-add (none_with b (λ m q. none m q b l)))

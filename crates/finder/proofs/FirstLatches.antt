@@ -1,16 +1,15 @@
 -- The first latches of a run, put into a row from the last one down: a fixed one by its reset, a free one by the next digit. Assumes nothing.
-use mathlib.Core.Bool.{Bool, false}
+use mathlib.Core.Bool.{Bool}
 use mathlib.Core.List.{List}
 use mathlib.Core.Path.{◌≡◌, refl, sym, ◌∙◌}
 use Prim.Native.Nat.{ℕ, ◌+◌, ◌-◌, ◌/◌, ◌%◌, ◌^◌, ◌≤◌, ◌<◌}
 use native.Mathlib.Omega.{arith}
 use lib.Dec.{eqb}
 use lib.ListN.{length, get_or, drop, set}
-use lib.Seq.{drop-length}
 use Rattle.meaning.specs.Witnesses.{byte}
 use Rattle.finder.specs.Runs.{free_in, bytes_by}
-use Rattle.finder.proofs.Digits.{none_taken, next_digit, one_taken, free_left, fixed_left, free_byte, fixed_byte}
-use Rattle.finder.proofs.FromTheLast.{GivenFrom, none_given, one_given}
+use Rattle.finder.proofs.Digits.{next_digit, one_taken, free_left, fixed_left, free_byte, fixed_byte}
+use Rattle.finder.proofs.FromTheLast.{GivenFrom, one_given}
 
 -- The latches from i on are right, and the digits that are left are the ones above theirs.
 pub record LatchesFrom (rs : List ℕ) (inputs digits i rest : ℕ) (before row : List Bool) : Type 0 where
@@ -19,13 +18,6 @@ pub record LatchesFrom (rs : List ℕ) (inputs digits i rest : ℕ) (before row 
   pub given : GivenFrom (λ (k : ℕ). eqb (byte (bytes_by rs digits) (k - inputs)) 1) (inputs + i) (inputs + length rs) before row
 
 module _ {rs : List ℕ} {inputs digits : ℕ} where
-  pub no_latches : {i : ℕ} {row : List Bool} → i ≡ length rs → LatchesFrom rs inputs digits i digits row row
-  no_latches e = record {
-    within = omega arith;
-    left = none_taken digits (rw (e, drop-length rs));
-    given = rw e none_given;
-  }
-
   -- The latch before them.
   module _ {i rest : ℕ} {before row : List Bool} (from : LatchesFrom rs inputs digits i rest before row) (room : inputs + length rs ≤ length before)
       (at : ℕ) (last : at + 1 ≡ i)
@@ -57,13 +49,3 @@ module _ {rs : List ℕ} {inputs digits : ℕ} where
       fixed_latch {reset} e l =
           let h : get_or rs at 2 < 2 = omega arith in
           one_latch reset (rw (fixed_left rs at here h) left_here) (e ∙ sym (fixed_byte rs digits at here h))
-
-  -- All of them.
-  module _ {i rest : ℕ} {before row : List Bool} (from : LatchesFrom rs inputs digits i rest before row) (l : i ≤ 0) where
-    pub all_latches : (j : ℕ) → j < length rs → get_or row (inputs + j) false ≡ eqb (byte (bytes_by rs digits) j) 1
-    all_latches j h =
-        let e : inputs + j - inputs ≡ j = omega arith in
-        rw e at (from.given.there (inputs + j) (omega arith) (omega arith))
-
-    pub inputs_kept : (j : ℕ) → j < inputs → get_or row j false ≡ get_or before j false
-    inputs_kept j h = from.given.kept j (omega arith)

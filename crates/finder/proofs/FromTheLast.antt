@@ -2,9 +2,9 @@
 use mathlib.Core.Bool.{Bool, false}
 use mathlib.Core.List.{List}
 use mathlib.Core.Logic.{⊎_elim}
-use mathlib.Core.Path.{◌≡◌, refl, subst, ◌∙◌}
+use mathlib.Core.Path.{◌≡◌, subst, ◌∙◌}
 use Prim.Native.Nat.{ℕ, ◌+◌, ◌≤◌, ◌<◌}
-use native.Mathlib.Nat.{eq-or-lt_of_le, not-le_of_lt}
+use native.Mathlib.Nat.{eq-or-lt_of_le}
 use native.Mathlib.Omega.{arith}
 use lib.ListN.{length, get_or, set, length-set}
 use lib.Seq.{get_or-set_same, get_or-set_other}
@@ -17,14 +17,6 @@ pub record GivenFrom (right : ℕ → Bool) (from end : ℕ) (before now : List 
   pub past : (k : ℕ) → end ≤ k → get_or now k false ≡ get_or before k false
 
 module _ {right : ℕ → Bool} where
-  pub none_given : {from : ℕ} {before : List Bool} → GivenFrom right from from before before
-  none_given = record {
-    long = refl;
-    there = λ k l h. absurd (not-le_of_lt h l);
-    kept = λ k l. refl;
-    past = λ k l. refl;
-  }
-
   -- The bit before those given.
   pub one_given : {from end : ℕ} {before now : List Bool} {b : Bool} → GivenFrom right from end before now
       → (at : ℕ) → at + 1 ≡ from → at < end → at < length before → b ≡ right at

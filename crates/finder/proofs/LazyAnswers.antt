@@ -1,5 +1,6 @@
 -- Finders that are lazy, count wrongly or spoil the room break the promise: for each an input, what meets the promise there, and what they give.
 -- Assumes nothing.
+use Rattle.std.proofs.Common.{Result, Ok, Err}
 use mathlib.Core.Path.{◌≡◌, refl, sym}
 use mathlib.Core.Bool.{true}
 use mathlib.Core.List.{List, [], ◌∷◌, ◌++◌}
@@ -21,10 +22,10 @@ use Rattle.meaning.specs.Calls.{accepted, WellFormed, check_problem, judge_bytes
 use Rattle.meaning.specs.Cases.{t_words}
 use Rattle.meaning.proofs.Check.{proper_if_well_formed}
 use Rattle.problem.specs.declared.Refusal.TheVariants.{BadVersion, BadReset, BadNode}
-use Rattle.finder.specs.declared.Finding.{Finding}
-use Rattle.finder.specs.declared.Finding.TheVariants.{Found, Problem, TooMuchOpen, RoomTooSmall, NoneExists}
+use Rattle.finder.specs.declared.NotFound.{NotFound}
+use Rattle.finder.specs.declared.NotFound.TheVariants.{Problem, TooMuchOpen, RoomTooSmall, NoneExists}
 use Rattle.finder.specs.Runs.{run_bytes}
-use Rattle.finder.specs.Search.{BestOf}
+use Rattle.finder.specs.Search.{IsBest}
 use Rattle.finder.proofs.FirstFound.{best_is_first}
 use Rattle.finder.proofs.FoundCases.{h_finally}
 use Rattle.finder.proofs.Lazy.{Input, Meets, Breaks, other_answer_breaks, other_room_breaks, other_byte_breaks}
@@ -45,19 +46,19 @@ unfolding header_words problem_by problem values next_values meets_constraints f
 room_left x a = room_after_finding a x.version x.words x.room
 
 -- The outcomes that are told apart below.
-pub none_not_found : {n : ℕ} → ¬ (NoneExists ≡ Found n)
+pub none_not_found : {n : ℕ} → ¬ (◌≡◌ {A = Result ℕ NotFound} (Err NoneExists) (Ok n))
 none_not_found e = let z : ◌≡◌ {A = ℕ} 0 1 = cc in omega arith
 
-pub found_not_none : {n : ℕ} → ¬ (Found n ≡ NoneExists)
+pub found_not_none : {n : ℕ} → ¬ (◌≡◌ {A = Result ℕ NotFound} (Ok n) (Err NoneExists))
 found_not_none e = none_not_found (sym e)
 
-none_not_small : {n : ℕ} → ¬ (NoneExists ≡ RoomTooSmall n)
+none_not_small : {n : ℕ} → ¬ (◌≡◌ {A = Result ℕ NotFound} (Err NoneExists) (Err (RoomTooSmall n)))
 none_not_small e = let z : ◌≡◌ {A = ℕ} 0 1 = cc in omega arith
 
-found_not_small : {m n : ℕ} → ¬ (Found m ≡ RoomTooSmall n)
+found_not_small : {m n : ℕ} → ¬ (◌≡◌ {A = Result ℕ NotFound} (Ok m) (Err (RoomTooSmall n)))
 found_not_small e = let z : ◌≡◌ {A = ℕ} 0 1 = cc in omega arith
 
-small_not_open : {m n : ℕ} → ¬ (RoomTooSmall m ≡ TooMuchOpen n)
+small_not_open : {m n : ℕ} → ¬ (◌≡◌ {A = Result ℕ NotFound} (Err (RoomTooSmall m)) (Err (TooMuchOpen n)))
 small_not_open e = let z : ◌≡◌ {A = ℕ} 0 1 = cc in omega arith
 
 -- ════════ Lazy answers ════════
@@ -66,7 +67,7 @@ small_not_open e = let z : ◌≡◌ {A = ℕ} 0 1 = cc in omega arith
 abbrev pub h_full : Input
 h_full = over (h_finally 3) 4
 
-pub h_full_meets : Meets h_full (Found 3) (0 ∷ 0 ∷ 0 ∷ 7 ∷ [])
+pub h_full_meets : Meets h_full (Ok 3) (0 ∷ 0 ∷ 0 ∷ 7 ∷ [])
 unfolding laid_down room_left
 h_full_meets = record { answered = refl; room_after = refl }
 
@@ -74,28 +75,28 @@ h_full_meets = record { answered = refl; room_after = refl }
 abbrev pub h_short : Input
 h_short = over (h_finally 2) 4
 
-pub h_short_meets : Meets h_short NoneExists (7 ∷ 7 ∷ 7 ∷ 7 ∷ [])
+pub h_short_meets : Meets h_short (Err NoneExists) (7 ∷ 7 ∷ 7 ∷ 7 ∷ [])
 unfolding laid_down room_left
 h_short_meets = record { answered = refl; room_after = refl }
 
 module _ (after : List ℕ) where
   -- None, whatever the words say.
-  pub says_none_always_breaks : Breaks h_full NoneExists after
+  pub says_none_always_breaks : Breaks h_full (Err NoneExists) after
   says_none_always_breaks = other_answer_breaks h_full_meets none_not_found
 
   -- Any refusal, whatever the words say.
-  pub refuses_all_breaks : (r : Finding) → ¬ (r ≡ Found 3) → Breaks h_full r after
+  pub refuses_all_breaks : (r : Result ℕ NotFound) → ¬ (r ≡ Ok 3) → Breaks h_full r after
   refuses_all_breaks r = other_answer_breaks h_full_meets
 
   -- Found, whatever the words say.
-  pub says_found_always_breaks : (n : ℕ) → Breaks h_short (Found n) after
+  pub says_found_always_breaks : (n : ℕ) → Breaks h_short (Ok n) after
   says_found_always_breaks n = other_answer_breaks h_short_meets found_not_none
 
   -- The place at 0 is the length.
-  pub place_left_out_breaks : Breaks h_full (Found 0) after
+  pub place_left_out_breaks : Breaks h_full (Ok 0) after
   place_left_out_breaks = other_answer_breaks h_full_meets (λ e. let z : ◌≡◌ {A = ℕ} 0 3 = cc in omega arith)
 
-module _ (r : Finding) where
+module _ (r : Result ℕ NotFound) where
   -- The other witness of the two.
   pub finds_the_last_breaks : Breaks h_full r (1 ∷ 0 ∷ 0 ∷ 7 ∷ [])
   finds_the_last_breaks = other_byte_breaks h_full_meets 0 (λ e. omega arith)
@@ -128,7 +129,7 @@ module _ (r : Finding) where
 abbrev pub h_full_narrow : Input
 h_full_narrow = over (h_finally 3) 2
 
-pub h_full_narrow_meets : Meets h_full_narrow (RoomTooSmall 3) (7 ∷ 7 ∷ [])
+pub h_full_narrow_meets : Meets h_full_narrow (Err (RoomTooSmall 3)) (7 ∷ 7 ∷ [])
 unfolding laid_down room_left
 h_full_narrow_meets = record { answered = refl; room_after = refl }
 
@@ -136,25 +137,25 @@ h_full_narrow_meets = record { answered = refl; room_after = refl }
 abbrev pub h_short_narrow : Input
 h_short_narrow = over (h_finally 2) 2
 
-pub h_short_narrow_meets : Meets h_short_narrow (RoomTooSmall 3) (7 ∷ 7 ∷ [])
+pub h_short_narrow_meets : Meets h_short_narrow (Err (RoomTooSmall 3)) (7 ∷ 7 ∷ [])
 unfolding laid_down room_left
 h_short_narrow_meets = record { answered = refl; room_after = refl }
 
 module _ (after : List ℕ) where
   -- The room is not checked.
-  pub narrow_room_accepted_breaks : (n : ℕ) → Breaks h_full_narrow (Found n) after
+  pub narrow_room_accepted_breaks : (n : ℕ) → Breaks h_full_narrow (Ok n) after
   narrow_room_accepted_breaks n = other_answer_breaks h_full_narrow_meets found_not_small
 
   -- 18 comes after the search, which finds none.
-  pub searched_before_room_breaks : Breaks h_short_narrow NoneExists after
+  pub searched_before_room_breaks : Breaks h_short_narrow (Err NoneExists) after
   searched_before_room_breaks = other_answer_breaks h_short_narrow_meets none_not_small
 
   -- The bytes that lack instead of those that are needed.
-  pub missing_bytes_breaks : Breaks h_full_narrow (RoomTooSmall 1) after
+  pub missing_bytes_breaks : Breaks h_full_narrow (Err (RoomTooSmall 1)) after
   missing_bytes_breaks = other_answer_breaks h_full_narrow_meets (λ e. let z : ◌≡◌ {A = ℕ} 1 3 = cc in omega arith)
 
 -- What there is room for is written before 18.
-pub written_at_18_breaks : (r : Finding) → Breaks h_full_narrow r (0 ∷ 0 ∷ [])
+pub written_at_18_breaks : (r : Result ℕ NotFound) → Breaks h_full_narrow r (0 ∷ 0 ∷ [])
 written_at_18_breaks r = other_byte_breaks h_full_narrow_meets 0 (λ e. omega arith)
 
 -- ════════ 17 ════════
@@ -167,7 +168,7 @@ open_latches n atom = 0 ∷ (n + 1) ∷ 0 ∷ 1 ∷ 0 ∷ (each (numbers 0 n) (�
 abbrev pub seventeen_open : Input
 seventeen_open = over (open_latches 17 36) 0
 
-pub seventeen_open_meets : Meets seventeen_open (TooMuchOpen 17) []
+pub seventeen_open_meets : Meets seventeen_open (Err (TooMuchOpen 17)) []
 unfolding laid_down room_left
 seventeen_open_meets = record { answered = refl; room_after = refl }
 
@@ -175,7 +176,7 @@ seventeen_open_meets = record { answered = refl; room_after = refl }
 abbrev pub seventeen_open_wide : Input
 seventeen_open_wide = over (open_latches 17 36) 19
 
-pub seventeen_open_wide_meets : Meets seventeen_open_wide (TooMuchOpen 17) (replicate 19 7)
+pub seventeen_open_wide_meets : Meets seventeen_open_wide (Err (TooMuchOpen 17)) (replicate 19 7)
 unfolding laid_down room_left
 seventeen_open_wide_meets = record { answered = refl; room_after = refl }
 
@@ -183,29 +184,29 @@ seventeen_open_wide_meets = record { answered = refl; room_after = refl }
 abbrev pub seventeen_open_bad : Input
 seventeen_open_bad = over (open_latches 17 38) 0
 
-pub seventeen_open_bad_meets : Meets seventeen_open_bad (Problem (BadNode 42)) []
+pub seventeen_open_bad_meets : Meets seventeen_open_bad (Err (Problem (BadNode 42))) []
 unfolding laid_down room_left
 seventeen_open_bad_meets = record { answered = refl; room_after = refl }
 
 module _ (after : List ℕ) where
   -- 18 before 17.
-  pub room_before_17_breaks : Breaks seventeen_open (RoomTooSmall 19) after
+  pub room_before_17_breaks : Breaks seventeen_open (Err (RoomTooSmall 19)) after
   room_before_17_breaks = other_answer_breaks seventeen_open_meets small_not_open
 
   -- 17 with the fixed reset counted.
-  pub fixed_reset_in_the_sum_breaks : Breaks seventeen_open (TooMuchOpen 18) after
+  pub fixed_reset_in_the_sum_breaks : Breaks seventeen_open (Err (TooMuchOpen 18)) after
   fixed_reset_in_the_sum_breaks = other_answer_breaks seventeen_open_meets (λ e. let z : ◌≡◌ {A = ℕ} 18 17 = cc in omega arith)
 
   -- 17 is left out, or its limit is higher.
-  pub seventeen_accepted_breaks : (r : Finding) → ¬ (r ≡ TooMuchOpen 17) → Breaks seventeen_open_wide r after
+  pub seventeen_accepted_breaks : (r : Result ℕ NotFound) → ¬ (r ≡ Err (TooMuchOpen 17)) → Breaks seventeen_open_wide r after
   seventeen_accepted_breaks r = other_answer_breaks seventeen_open_wide_meets
 
   -- 17 before the problem's own checks.
-  pub open_before_problem_breaks : (n : ℕ) → Breaks seventeen_open_bad (TooMuchOpen n) after
+  pub open_before_problem_breaks : (n : ℕ) → Breaks seventeen_open_bad (Err (TooMuchOpen n)) after
   open_before_problem_breaks n = other_answer_breaks seventeen_open_bad_meets (λ e. let z : ◌≡◌ {A = ℕ} 0 1 = cc in omega arith)
 
 -- The witness is written although 17 is answered.
-pub written_at_17_breaks : (r : Finding) → Breaks seventeen_open_wide r (0 ∷ (replicate 17 0 ++ (1 ∷ [])))
+pub written_at_17_breaks : (r : Result ℕ NotFound) → Breaks seventeen_open_wide r (0 ∷ (replicate 17 0 ++ (1 ∷ [])))
 written_at_17_breaks r = other_byte_breaks seventeen_open_wide_meets 0 (λ e. omega arith)
 
 -- Of 17 latches 16 are free; the first witness is 0, 16 times 0, 1.
@@ -218,27 +219,27 @@ sixteen_open_formed = refl
 
 -- Its candidates are too many to be computed, but the first run that meets the resets is a witness as a prefix.
 first_of_all : (p : problems.Problem) → Proper p → accepted p (0 ∷ run_bytes p 0) ≡ true → (rest : List (List ℕ)) × (witnesses p ≡ (0 ∷ run_bytes p 0) ∷ rest)
-first_of_all p proper e = best_is_first proper {best = record { first = 0; run = 0 }} best (omega arith)
+first_of_all p proper e = best_is_first proper {best = record { first = 0; run = 0 }} best
   where
-    best : BestOf p (2 ^ open_bytes p) (record { first = 0; run = 0 })
+    best : IsBest p (2 ^ open_bytes p) (record { first = 0; run = 0 })
     best = record {
       within = omega arith;
-      none_lower = λ m b l q. absurd (omega arith);
-      is_one = λ l. e;
-      run_there = λ l. one-le-pow (open_bytes p) 2 (omega arith);
-      none_before = λ m l q. absurd (omega arith);
+      none_lower = λ m l b q. absurd (omega arith);
+      is_one = e;
+      run_there = one-le-pow (open_bytes p) 2 (omega arith);
+      none_before = λ m l. absurd (omega arith);
     }
 
 sixteen_open_first : (rest : List (List ℕ)) × (witnesses (problem 1 sixteen_open.words) ≡ (0 ∷ (replicate 16 0 ++ (1 ∷ []))) ∷ rest)
 unfolding header_words problem_by problem values next_values meets_constraints formula run judge_bytes run_bytes
 sixteen_open_first = first_of_all (problem 1 sixteen_open.words) (proper_if_well_formed 1 sixteen_open.words sixteen_open_formed) refl
 
-pub sixteen_open_meets : Meets sixteen_open (Found 18) (0 ∷ (replicate 16 0 ++ (1 ∷ [])))
+pub sixteen_open_meets : Meets sixteen_open (Ok 18) (0 ∷ (replicate 16 0 ++ (1 ∷ [])))
 unfolding header_words inputs_limit latches_limit gates_limit nodes_limit bound_limit constraints_limit search_limit problem_by problem find_witness room_after_finding
 sixteen_open_meets = record { answered = rw sixteen_open_first.1; room_after = rw sixteen_open_first.1 }
 
 -- The fixed reset counted, so that 17 are open.
-pub fixed_reset_refused_breaks : (after : List ℕ) → Breaks sixteen_open (TooMuchOpen 17) after
+pub fixed_reset_refused_breaks : (after : List ℕ) → Breaks sixteen_open (Err (TooMuchOpen 17)) after
 fixed_reset_refused_breaks after = other_answer_breaks sixteen_open_meets (λ e. let z : ◌≡◌ {A = ℕ} 0 1 = cc in omega arith)
 
 -- ════════ The problem's check ════════
@@ -247,7 +248,7 @@ fixed_reset_refused_breaks after = other_answer_breaks sixteen_open_meets (λ e.
 abbrev pub t_bad : Input
 t_bad = over (0 ∷ 1 ∷ 0 ∷ 1 ∷ 0 ∷ 3 ∷ 3 ∷ 0 ∷ 2 ∷ 0 ∷ []) 2
 
-pub t_bad_meets : Meets t_bad (Problem (BadReset 6)) (7 ∷ 7 ∷ [])
+pub t_bad_meets : Meets t_bad (Err (Problem (BadReset 6))) (7 ∷ 7 ∷ [])
 unfolding laid_down room_left
 t_bad_meets = record { answered = refl; room_after = refl }
 
@@ -255,13 +256,13 @@ t_bad_meets = record { answered = refl; room_after = refl }
 abbrev pub t_other_version : Input
 t_other_version = record { version = 9; words = t_words; room = [] }
 
-pub t_other_version_meets : Meets t_other_version (Problem BadVersion) []
+pub t_other_version_meets : Meets t_other_version (Err (Problem BadVersion)) []
 unfolding laid_down room_left
 t_other_version_meets = record { answered = refl; room_after = refl }
 
-module _ (r : Finding) (after : List ℕ) where
+module _ (r : Result ℕ NotFound) (after : List ℕ) where
   -- The problem is not checked.
-  pub bad_problem_searched_breaks : ¬ (r ≡ Problem (BadReset 6)) → Breaks t_bad r after
+  pub bad_problem_searched_breaks : ¬ (r ≡ Err (Problem (BadReset 6))) → Breaks t_bad r after
   bad_problem_searched_breaks = other_answer_breaks t_bad_meets
 
   -- The room is written before the problem is checked.
@@ -269,5 +270,5 @@ module _ (r : Finding) (after : List ℕ) where
   written_at_bad_problem_breaks = other_room_breaks t_bad_meets
 
   -- The version is not checked.
-  pub takes_any_version_breaks : ¬ (r ≡ Problem BadVersion) → Breaks t_other_version r after
+  pub takes_any_version_breaks : ¬ (r ≡ Err (Problem BadVersion)) → Breaks t_other_version r after
   takes_any_version_breaks = other_answer_breaks t_other_version_meets

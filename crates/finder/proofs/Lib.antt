@@ -8,7 +8,6 @@ pub mod NewRun
 pub mod RunValues
 pub mod Accepted
 pub mod ShownRuns
-pub mod BestRuns
 pub mod InOrder
 pub mod FirstFound
 pub mod RoomWritten

@@ -1,4 +1,5 @@
 -- What the finder's answers mean: when each comes, and what a witness found or none says. Assumes nothing.
+use Rattle.std.proofs.Common.{Result, Ok, Err}
 use mathlib.Core.Path.{◌≡◌, refl, sym, ◌∙◌, ap}
 use mathlib.Core.Bool.{Bool, true, false, cond}
 use mathlib.Core.List.{List, [], ◌∷◌}
@@ -22,8 +23,8 @@ use Rattle.finder.proofs.FindingOrder.{find_witness_is}
 use Rattle.pairing.specs.Excluded.{Excluded}
 use Rattle.pairing.specs.Pairs.{Model}
 use Rattle.pairing.proofs.FirstWitness.{first_witness, none_if_empty, empty_is_unsatisfiable, empty_excludes}
-use Rattle.finder.specs.declared.Finding.{Finding}
-use Rattle.finder.specs.declared.Finding.TheVariants.{Found, TooMuchOpen, RoomTooSmall, NoneExists}
+use Rattle.finder.specs.declared.NotFound.{NotFound}
+use Rattle.finder.specs.declared.NotFound.TheVariants.{TooMuchOpen, RoomTooSmall, NoneExists}
 use Rattle.finder.specs.Promise.{answer_of, FoundAs, Searched}
 use Rattle.finder.proofs.Unique.{same_outcome}
 
@@ -84,7 +85,7 @@ room_found version ws room a zero listed = rw (zero, listed)
 
 -- ════════ The call ════════
 
-module _ (version : ℕ) (ws room : List ℕ) {r : Finding} {after : List ℕ} (call : FoundAs version ws room r after) where
+module _ (version : ℕ) (ws room : List ℕ) {r : Result ℕ NotFound} {after : List ℕ} (call : FoundAs version ws room r after) where
   abbrev p : Problem
   p = problem version ws
 
@@ -101,7 +102,7 @@ module _ (version : ℕ) (ws room : List ℕ) {r : Finding} {after : List ℕ} (
   formed_if_over k over e = well_formed_if_over version ws search_answer k over (number_of (sym checked) ∙ e)
 
   -- 17 exactly where more than 16 bytes are open, 18 where the room is too small then.
-  pub too_much_open_if : (n : ℕ) → (r ≡ TooMuchOpen n) ↔ (WellFormed version ws × (search_limit < open_bytes p) × (n ≡ open_bytes p))
+  pub too_much_open_if : (n : ℕ) → (r ≡ Err (TooMuchOpen n)) ↔ (WellFormed version ws × (search_limit < open_bytes p) × (n ≡ open_bytes p))
   too_much_open_if n = (λ e. there (ap answer_of e), λ h. same_outcome (answered h.0 ∙ rw (lt-leb (open_bytes p) search_limit h.1, h.2)))
     where
       there : answer_of r ≡ too_much_open n → WellFormed version ws × (search_limit < open_bytes p) × (n ≡ open_bytes p)
@@ -115,7 +116,7 @@ module _ (version : ℕ) (ws room : List ℕ) {r : Finding} {after : List ℕ} (
             | inr a ↦ (formed, leb-false _ _ a.0, sym (place_of a.1))
           ]
 
-  pub room_too_small_if : (n : ℕ) → (r ≡ RoomTooSmall n)
+  pub room_too_small_if : (n : ℕ) → (r ≡ Err (RoomTooSmall n))
       ↔ (WellFormed version ws × (open_bytes p ≤ search_limit) × (length room < witness_length p) × (n ≡ witness_length p))
   room_too_small_if n = (
     λ e. there (ap answer_of e),
@@ -135,7 +136,7 @@ module _ (version : ℕ) (ws room : List ℕ) {r : Finding} {after : List ℕ} (
           ]
 
   -- The witness found is a witness, and each witness is at or after it.
-  pub found_first : {n : ℕ} → r ≡ Found n
+  pub found_first : {n : ℕ} → r ≡ Ok n
       → WellFormed version ws × Searched p (length room) × (n ≡ witness_length p)
       × ((bs : List ℕ) × (after ≡ written bs room) × Witness p bs × ((cs : List ℕ) → Witness p cs → at_or_before bs cs ≡ true))
   found_first {n} e =
@@ -151,7 +152,7 @@ module _ (version : ℕ) (ws room : List ℕ) {r : Finding} {after : List ℕ} (
       )
 
   -- None exactly where the CNF cannot be satisfied, given that the search comes to be.
-  pub none_unsatisfiable : WellFormed version ws → Searched p (length room) → (r ≡ NoneExists) ↔ (((a : Assignment) × Model p a) → ⊥)
+  pub none_unsatisfiable : WellFormed version ws → Searched p (length room) → (r ≡ (Err NoneExists)) ↔ (((a : Assignment) × Model p a) → ⊥)
   none_unsatisfiable formed searched =
       let unsatisfiable = empty_is_unsatisfiable p (proper_if_well_formed version ws formed) in
       let search : answer_of r ≡ first_found (witnesses p) = answered formed ∙ searched_then p (length room) _ searched in (
@@ -160,7 +161,7 @@ module _ (version : ℕ) (ws room : List ℕ) {r : Finding} {after : List ℕ} (
       )
 
   -- And then there is no lasso at any bound from 0 to k and no prefix at k, and without constraints no witness at any of these bounds.
-  pub none_excludes : r ≡ NoneExists → WellFormed version ws × Searched p (length room) × Excluded p
+  pub none_excludes : r ≡ (Err NoneExists) → WellFormed version ws × Searched p (length room) × Excluded p
   none_excludes e =
       let formed = formed_if_over 29 (lit< tt) (number_of (ap answer_of e)) in
       let search : search_answer ≡ none_exists 0 = sym (answered formed) ∙ ap answer_of e in
@@ -171,10 +172,10 @@ module _ (version : ℕ) (ws room : List ℕ) {r : Finding} {after : List ℕ} (
       )
 
   -- Where a witness exists, one is found.
-  pub found_if_any : WellFormed version ws → Searched p (length room) → (bs : List ℕ) → Witness p bs → r ≡ Found (witness_length p)
+  pub found_if_any : WellFormed version ws → Searched p (length room) → (bs : List ℕ) → Witness p bs → r ≡ Ok (witness_length p)
   found_if_any formed searched bs w = go (witnesses p) refl
     where
-      go : (xs : List (List ℕ)) → witnesses p ≡ xs → r ≡ Found (witness_length p)
+      go : (xs : List (List ℕ)) → witnesses p ≡ xs → r ≡ Ok (witness_length p)
       go [] q = absurd (none_if_empty p q bs w)
       go (cs ∷ rest) q =
           same_outcome (answered formed ∙ searched_then p (length room) _ searched ∙ rw (q, ← (first_witness p q).0.length_right))

@@ -1,5 +1,6 @@
 -- What the bits of a run put into the room, part after part: the first bytes of the witness, and behind them the room as it was. Assumes nothing.
-use mathlib.Core.Bool.{Bool, false}
+use mir.Val.{bool_byte}
+use mathlib.Core.Bool.{Bool, true, false}
 use mathlib.Core.List.{List, [], ◌∷◌, ◌++◌, map}
 use mathlib.Core.Path.{◌≡◌, refl, sym, ◌∙◌, ap, ap₂}
 use Prim.Native.Nat.{ℕ, zero, suc, ◌+◌, ◌*◌, ◌≤◌, ◌<◌, zero-le}
@@ -8,21 +9,24 @@ use native.Mathlib.Numerals.{add-one}
 use native.Mathlib.Omega.{arith}
 use lib.Dec.{eqb}
 use lib.ListN.{length, get_or, take, drop, set, length-map, length-drop, get_or-map}
-use lib.Seq.{length-take-le, length_front, take-length, take_at, drop_at, take-add, drop-drop, get_or-take, get_or-drop, ext_get_or, paste, paste-suc}
+use lib.Seq.{length-take-le, take-length, take_at, drop_at, take-add, drop-drop, get_or-take, get_or-drop, ext_get_or, paste, paste-suc}
 use Rattle.answers.specs.Lists.{written}
+use Rattle.answers.specs.Limits.{inputs_limit, latches_limit, bound_limit}
 use Rattle.meaning.specs.Problem.{Problem}
 use Rattle.meaning.specs.Proper.{Proper}
 use Rattle.meaning.specs.Witnesses.{witness_length, byte}
-use Rattle.problem.specs.declared.Outline.{Outline}
-use Rattle.problem.proofs.Outlines.{Shows}
-use Rattle.values.specs.Tables.{positions_limit}
-use Rattle.finder.specs.Runs.{run_bytes, slots, byte_of, given_limit, Held, Filled}
+use Rattle.finder.specs.Runs.{run_bytes, slots, byte_of, Held, Filled}
 use Rattle.finder.proofs.Digits.{bytes_below_2, length_run}
 
 -- ════════ Bits as bytes ════════
 
 byte_passed : (bits : List Bool) (from i : ℕ) → get_or (map byte_of (drop from bits)) i 0 ≡ byte_of (get_or bits (from + i) false)
 byte_passed bits from i = get_or-map byte_of (drop from bits) i false ∙ ap byte_of (get_or-drop from bits i false)
+
+-- The conversion's byte is the witness's.
+pub byte_is : (b : Bool) → bool_byte b ≡ byte_of b
+byte_is false = refl
+byte_is true = refl
 
 -- One bit more.
 pub one_byte : (before : List ℕ) (at : ℕ) (bits : List Bool) (from i : ℕ) {room : List ℕ} {b : ℕ} → room ≡ paste before at (map byte_of (drop from bits)) i
@@ -54,10 +58,6 @@ abbrev begun : List ℕ → List ℕ → ℕ → List ℕ
 begun bs room n = take n bs ++ drop n room
 
 module _ (bs room : List ℕ) (fits : length bs ≤ length room) where
-  length_begun : (n : ℕ) → n ≤ length bs → length (begun bs room n) ≡ length room
-  length_begun n h =
-      length_front room (take n bs) n (length-take-le n bs h ∙ sym (length-take-le n room (omega arith)))
-
   more_begun : (n count : ℕ) (new : List ℕ) → n + count ≤ length bs → take count new ≡ take count (drop n bs)
       → paste (begun bs room n) n new count ≡ begun bs room (n + count)
   more_begun n count new h same =
@@ -84,7 +84,7 @@ inputs_put run inputs latches room (suc t) =
 -- The rows of a run have its inputs and its latches.
 pub row_fits : {p : Problem} {run : List (List Bool)} → Proper p → Held run → (t : ℕ) → t ≤ p.bound
     → p.inputs + length p.latches ≤ length (get_or run t [])
-unfolding given_limit positions_limit
+unfolding inputs_limit latches_limit bound_limit
 row_fits proper held t h =
     omega (arith, held.bits_there t (omega (arith, proper.bound_within)), proper.inputs_within, proper.latches_within)
 
@@ -104,13 +104,6 @@ module _ (p : Problem) (b m : ℕ) where
 
   within : (t : ℕ) → t ≤ p.bound + 1 → inputs_from p t ≤ length bytes
   within t h = omega (arith, length_run p b m, mul-le-mul_left {m = t} {n = p.bound + 1} p.inputs h)
-
--- A witness has the inputs of each position.
-pub inputs_there : {s : Outline} {p : Problem} (sizes : Shows s p) (t : ℕ) → t ≤ s.bound
-    → 1 + s.latches + s.inputs * t + s.inputs ≤ witness_length p
-inputs_there {s} sizes t h =
-    rw (sizes.inputs_are, sizes.latches_are, sizes.bound_is)
-    (omega (arith, mul-suc s.inputs t, mul-le-mul_left {m = suc t} {n = s.bound + 1} s.inputs (omega arith)))
 
 -- One part after the other: the first byte, the first latches, and the inputs of each position.
 module _ {p : Problem} (proper : Proper p) {m : ℕ} {run : List (List Bool)} (filled : Filled p m run) (b : ℕ) (room : List ℕ)
@@ -151,19 +144,14 @@ module _ {p : Problem} (proper : Proper p) {m : ℕ} {run : List (List Bool)} (f
   positions_begun zero h = rw (mul-zero, add-zero)
   positions_begun (suc t) h = rw (positions_begun t (omega arith)) (position_begun t (omega arith))
 
-  -- By an outline's sizes, when the inputs of the first t positions are put.
-  module _ {s : Outline} (sizes : Shows s p) {begin now : List ℕ} {t : ℕ}
-      (latches-in : begin ≡ paste (set room 0 b) 1 (map byte_of (drop s.inputs (get_or run 0 []))) s.latches)
-      (inputs_in : now ≡ inputs_put run s.inputs s.latches begin t) (h : t ≤ s.bound + 1) where
+  -- When the inputs of the first t positions are put.
+  module _ {begin now : List ℕ} {t : ℕ}
+      (latches_in : begin ≡ paste (set room 0 b) 1 (map byte_of (drop p.inputs (get_or run 0 []))) (length p.latches))
+      (inputs_in : now ≡ inputs_put run p.inputs (length p.latches) begin t) (h : t ≤ p.bound + 1) where
     put_so_far : now ≡ begun (bytes p b m) room (inputs_from p t)
-    put_so_far =
-        inputs_in ∙ rw (latches-in, ← sizes.inputs_are, ← sizes.latches_are, latches_begun) (positions_begun t (omega (arith, sizes.bound_is)))
+    put_so_far = inputs_in ∙ rw (latches_in, latches_begun) (positions_begun t h)
 
-    pub room_kept : length now ≡ length room
-    room_kept = ap length put_so_far ∙ length_begun (bytes p b m) room fit (inputs_from p t) (within p b m t (omega (arith, sizes.bound_is)))
-
-    pub room_written : s.bound < t → now ≡ written (b ∷ run_bytes p m) room
-    room_written past =
-        let last : t ≡ p.bound + 1 = omega (arith, sizes.bound_is) in
+    pub room_written : t ≡ p.bound + 1 → now ≡ written (b ∷ run_bytes p m) room
+    room_written last =
         let all : inputs_from p t ≡ length (bytes p b m) = rw last (sym (length_run p b m)) in
         put_so_far ∙ rw all (all_begun (bytes p b m) room fit)

@@ -1,4 +1,6 @@
 -- The values of a run: the row of a position, and what the loop over the positions keeps. Assumes nothing.
+use Rattle.finder.specs.declared.run.TheConstants.{GIVEN}
+use Rattle.values.specs.declared.rows.TheConstants.{POSITIONS}
 use mathlib.Core.Bool.{Bool, true, false}
 use mathlib.Core.List.{List, [], ◌∷◌, ◌++◌, append_assoc}
 use mathlib.Core.Path.{◌≡◌, sym, ◌∙◌, ap, ap₂}
@@ -19,14 +21,12 @@ use Rattle.meaning.specs.Runs.{literal_value, values, meets_constraints, with_ga
 use Rattle.meaning.specs.Witnesses.{byte, inputs_at, position}
 use Rattle.pairing.proofs.Rows.{next_by_row}
 use Rattle.pairing.proofs.Runs.{position_first, position_inputs, position_next, length_inputs_at, length_latches}
-use Rattle.problem.specs.declared.Outline.{Outline}
-use Rattle.problem.proofs.Outlines.{Shows}
-use Rattle.values.specs.Tables.{RowsRight, row_width, rows_room, row_in, given_width, next_in, positions_limit}
+use Rattle.values.specs.Tables.{RowsRight, row_width, rows_room, row_in, given_width, next_in}
 use Rattle.values.specs.Values.{gates_put}
 use Rattle.values.proofs.Copies.{bit_at, sets_there}
 use Rattle.values.proofs.RowGates.{gates_there}
 use Rattle.values.proofs.RowLaws.{beginning_stays, put_there, wide_enough, length_next_in, next_value_in, constraints_in_row, one_more_row}
-use Rattle.finder.specs.Runs.{Held, Filled, Shown, Broken, run_bytes, given_limit, bit}
+use Rattle.finder.specs.Runs.{Held, Filled, Shown, Broken, run_bytes, bit}
 use Rattle.finder.proofs.Digits.{length_run}
 use Rattle.finder.proofs.Filling.{held_set, bit_set, bit_other}
 
@@ -102,135 +102,135 @@ module _ {p : Problem} {m : ℕ} where
           rw (e, position_first)
           (filled.latches_right i h ∙ rw place at (bit_at (bytes p m) 1 (length p.latches) (omega (arith, length_run p 0 m)) i h))
 
-  module _ {s : Outline} (z : Shows s p) where
-    pub all_shown : {n : ℕ} {run : List (List Bool)} {table : List Bool} → RunTo p m n run table → s.bound < n → Shown p m (s.bound + 1) run table
-    all_shown {n} to l = record {
+  pub all_shown : Proper p → {n : ℕ} {run : List (List Bool)} {table : List Bool} → RunTo p m n run table → p.bound < n → Shown p m (p.bound + 1) run table
+  all_shown proper {n} to l = record {
+    proper = proper;
+    held = to.held;
+    values_right = let e : n ≡ p.bound + 1 = omega (arith, to.within) in rw e at to.values_right;
+    latches_right = λ t i a h. to.latches_right t i (omega arith) (omega arith) h;
+    constraints_met = λ t h. to.constraints_met t (omega arith);
+  }
+
+  module _ (proper : Proper p) {n : ℕ} {run : List (List Bool)} {table : List Bool} (to : RunTo p m n run table) (here : n ≤ p.bound) where
+    within : n ≤ p.bound
+    within = omega arith
+
+    row_wide : length (get_or run n []) ≡ GIVEN
+    unfolding bound_limit
+    row_wide = to.held.bits_there n (omega (arith, proper.bound_within))
+
+    bytes_there : 1 + length p.latches + p.inputs * n + p.inputs ≤ length (bytes p m)
+    bytes_there =
+        omega (arith, length_run p 0 m, mul-suc p.inputs n, mul-le-mul_left {m = suc n} {n = p.bound + 1} p.inputs (omega arith))
+
+    input_of : (i : ℕ) → i < p.inputs → bit run n i ≡ get_or (inputs_at p (bytes p m) n) i false
+    input_of i q =
+        let from : ℕ = length p.latches + p.inputs * n in
+        let place : 1 + length p.latches + p.inputs * n + i ≡ suc (from + i) = omega arith in
+        to.inputs_right n i within q
+        ∙ rw place at (bit_at (bytes p m) (1 + length p.latches + p.inputs * n) p.inputs bytes_there i q)
+
+    inputs_of : take p.inputs (get_or run n []) ≡ inputs_at p (bytes p m) n
+    unfolding inputs_limit latches_limit
+    inputs_of =
+        first_are p.inputs (get_or run n []) (inputs_at p (bytes p m) n) (omega (arith, row_wide))
+        (length_inputs_at p (bytes p m) (length_run p 0 m) n within) input_of
+
+    latches_of : take (length p.latches) (drop p.inputs (get_or run n [])) ≡ (position p (bytes p m) n).latches
+    unfolding inputs_limit latches_limit
+    latches_of =
+        first_are (length p.latches) (drop p.inputs (get_or run n [])) (position p (bytes p m) n).latches
+        (simp length-drop (omega (arith, row_wide))) (length_latches p (bytes p m) (length_run p 0 m) n within)
+        (λ i q. get_or-drop p.inputs (get_or run n []) i false ∙ to.latches_right n i (omega arith) within q)
+
+    given_of : take (p.inputs + length p.latches) (get_or run n []) ≡ (position p (bytes p m) n).inputs ++ (position p (bytes p m) n).latches
+    given_of =
+        take-add p.inputs (length p.latches) (get_or run n [])
+        ∙ ap₂ (λ (xs ys : List Bool). xs ++ ys) (inputs_of ∙ sym (position_inputs p (bytes p m) n within)) latches_of
+
+    -- The row of position n, put into the table.
+    pub row_shown : (table' : List Bool) → length table' ≡ length table
+        → take (n * row_width + (W p + 1)) table'
+        ≡ take (n * row_width) table ++ with_gates p.gates (false ∷ take (p.inputs + length p.latches) (get_or run n []))
+        → RowsRight p (bytes p m) (n + 1) table'
+    unfolding values
+    row_shown table' long e =
+        one_more_row to.values_right proper long (omega (arith, proper.bound_within))
+        (rw given_of at e)
+
+    -- Whether the row meets the constraints is whether the position does.
+    pub row_meets : {table' : List Bool} → RowsRight p (bytes p m) (n + 1) table' → {r : Bool} → r ≡ all_of (literal_value (row_in table' n)) p.constraints
+        → r ≡ meets_constraints p (position p (bytes p m) n)
+    row_meets right e = e ∙ constraints_in_row right proper {t = n} (omega arith)
+
+    -- One position more meets them.
+    met_to : meets_constraints p (position p (bytes p m) n) ≡ true → (t : ℕ) → t < n + 1 → meets_constraints p (position p (bytes p m) t) ≡ true
+    met_to met = below_more (λ t. meets_constraints p (position p (bytes p m) t) ≡ true) n to.constraints_met met
+
+    -- It breaks a constraint.
+    pub broken_here : meets_constraints p (position p (bytes p m) n) ≡ false → Broken p m
+    broken_here e = record { at = n; within = within; broken = e }
+
+    -- The last position has no next one.
+    pub last_shown : p.bound ≤ n → (table' : List Bool) → RowsRight p (bytes p m) (n + 1) table'
+        → meets_constraints p (position p (bytes p m) n) ≡ true → RunTo p m (n + 1) run table'
+    last_shown h table' right met = record {
+      within = omega arith;
       held = to.held;
-      values_right = let e : n ≡ s.bound + 1 = omega (arith, to.within) in rw e at to.values_right;
-      latches_right = λ t i a h. to.latches_right t i (omega arith) (omega arith) h;
-      constraints_met = λ t h. to.constraints_met t (omega arith);
+      values_right = right;
+      inputs_right = to.inputs_right;
+      latches_right = λ t i a q. to.latches_right t i (omega arith) q;
+      constraints_met = met_to met;
     }
 
-    module _ (proper : Proper p) {n : ℕ} {run : List (List Bool)} {table : List Bool} (to : RunTo p m n run table) (here : n ≤ s.bound) where
-      within : n ≤ p.bound
-      within = omega arith
+    -- The latches of the next position, put into its row.
+    module _ (h : n < p.bound) (table' : List Bool) (right : RowsRight p (bytes p m) (n + 1) table')
+        (met : meets_constraints p (position p (bytes p m) n) ≡ true)
+        (row : List Bool) (put : row ≡ sets (get_or run (n + 1) []) p.inputs (next_in p (row_in table' n))) where
+      there : n + 1 < POSITIONS
+      unfolding bound_limit
+      there = omega (arith, proper.bound_within)
 
-      row_wide : length (get_or run n []) ≡ given_limit
-      unfolding bound_limit positions_limit
-      row_wide = to.held.bits_there n (omega (arith, proper.bound_within))
+      long : length row ≡ length (get_or run (n + 1) [])
+      long = ap length put ∙ simp length-sets
 
-      bytes_there : 1 + length p.latches + p.inputs * n + p.inputs ≤ length (bytes p m)
-      bytes_there =
-          omega (arith, length_run p 0 m, mul-suc p.inputs n, mul-le-mul_left {m = suc n} {n = p.bound + 1} p.inputs (omega arith))
+      fits : p.inputs + length p.latches ≤ length (get_or run (n + 1) [])
+      unfolding inputs_limit latches_limit
+      fits = omega (arith, to.held.bits_there (n + 1) there, proper)
 
-      input_of : (i : ℕ) → i < p.inputs → bit run n i ≡ get_or (inputs_at p (bytes p m) n) i false
-      input_of i q =
-          let from : ℕ = length p.latches + p.inputs * n in
-          let place : 1 + length p.latches + p.inputs * n + i ≡ suc (from + i) = omega arith in
-          to.inputs_right n i within q
-          ∙ rw place at (bit_at (bytes p m) (1 + length p.latches + p.inputs * n) p.inputs bytes_there i q)
+      begins : take (p.inputs + length p.latches) row ≡ take p.inputs (get_or run (n + 1) []) ++ next_in p (row_in table' n)
+      begins =
+          ap (take (p.inputs + length p.latches)) put
+          ∙ sets_there (get_or run (n + 1) []) p.inputs _ (length_next_in p (row_in table' n)) fits
 
-      inputs_of : take p.inputs (get_or run n []) ≡ inputs_at p (bytes p m) n
-      unfolding inputs_limit latches_limit given_limit
-      inputs_of =
-          first_are p.inputs (get_or run n []) (inputs_at p (bytes p m) n) (omega (arith, row_wide))
-          (length_inputs_at p (bytes p m) (length_run p 0 m) n within) input_of
+      inputs : (i : ℕ) → i < p.inputs → get_or row i false ≡ get_or (get_or run (n + 1) []) i false
+      inputs = put_after p.inputs (length p.latches) (get_or run (n + 1) []) row _ (omega (arith, fits)) begins
 
-      latches_of : take (length p.latches) (drop p.inputs (get_or run n [])) ≡ (position p (bytes p m) n).latches
-      unfolding inputs_limit latches_limit given_limit
-      latches_of =
-          first_are (length p.latches) (drop p.inputs (get_or run n [])) (position p (bytes p m) n).latches
-          (simp length-drop (omega (arith, row_wide))) (length_latches p (bytes p m) (length_run p 0 m) n within)
-          (λ i q. get_or-drop p.inputs (get_or run n []) i false ∙ to.latches_right n i (omega arith) within q)
+      latches : (i : ℕ) → i < length p.latches → get_or row (p.inputs + i) false ≡ literal_value (row_in table' n) (latch p i).next
+      latches i q =
+          put_at p.inputs (length p.latches) (get_or run (n + 1) []) row _ (omega (arith, fits)) begins i q
+          ∙ next_by_row p (row_in table' n) i (omega arith)
 
-      given_of : take (p.inputs + length p.latches) (get_or run n []) ≡ (position p (bytes p m) n).inputs ++ (position p (bytes p m) n).latches
-      given_of =
-          take-add p.inputs (length p.latches) (get_or run n [])
-          ∙ ap₂ (λ (xs ys : List Bool). xs ++ ys) (inputs_of ∙ sym (position_inputs p (bytes p m) n within)) latches_of
+      input_still : (t i : ℕ) → i < p.inputs → Dec (t ≡ n + 1) → bit (set run (n + 1) row) t i ≡ bit run t i
+      input_still t i q (yes e) = rw e (bit_set to.held (n + 1) row long there i ∙ inputs i (omega arith))
+      input_still t i q (no d) = bit_other run (n + 1) row t i d
 
-      -- The row of position n, put into the table.
-      pub row_shown : (table' : List Bool) → length table' ≡ length table
-          → take (n * row_width + (W p + 1)) table'
-          ≡ take (n * row_width) table ++ with_gates p.gates (false ∷ take (s.inputs + s.latches) (get_or run n []))
-          → RowsRight p (bytes p m) (n + 1) table'
-      unfolding values
-      row_shown table' long e =
-          one_more_row to.values_right proper long (omega (arith, proper.bound_within))
-          (rw (← z.inputs_are, ← z.latches_are, given_of) at e)
+      next_latch : (i : ℕ) → i < length p.latches → get_or row (p.inputs + i) false ≡ get_or (position p (bytes p m) (n + 1)).latches i false
+      next_latch i q =
+          latches i q ∙ next_value_in right proper {t = n} (omega arith) i q
+          ∙ rw (add-one n, position_next p (bytes p m) n (omega arith))
 
-      -- Whether the row meets the constraints is whether the position does.
-      pub row_meets : {table' : List Bool} → RowsRight p (bytes p m) (n + 1) table' → {r : Bool} → r ≡ all_of (literal_value (row_in table' n)) p.constraints
-          → r ≡ meets_constraints p (position p (bytes p m) n)
-      row_meets right e = e ∙ constraints_in_row right proper {t = n} (omega arith)
+      latch_there : (t i : ℕ) → t ≤ n + 1 → t ≤ p.bound → i < length p.latches → Dec (t ≡ n + 1)
+          → bit (set run (n + 1) row) t (p.inputs + i) ≡ get_or (position p (bytes p m) t).latches i false
+      latch_there t i a b q (yes e) = rw e (bit_set to.held (n + 1) row long there (p.inputs + i) ∙ next_latch i q)
+      latch_there t i a b q (no d) = bit_other run (n + 1) row t (p.inputs + i) d ∙ to.latches_right t i (omega arith) b q
 
-      -- One position more meets them.
-      met_to : meets_constraints p (position p (bytes p m) n) ≡ true → (t : ℕ) → t < n + 1 → meets_constraints p (position p (bytes p m) t) ≡ true
-      met_to met = below_more (λ t. meets_constraints p (position p (bytes p m) t) ≡ true) n to.constraints_met met
-
-      -- It breaks a constraint.
-      pub broken_here : meets_constraints p (position p (bytes p m) n) ≡ false → Broken p m
-      broken_here e = record { at = n; within = within; broken = e }
-
-      -- The last position has no next one.
-      pub last_shown : s.bound ≤ n → (table' : List Bool) → RowsRight p (bytes p m) (n + 1) table'
-          → meets_constraints p (position p (bytes p m) n) ≡ true → RunTo p m (n + 1) run table'
-      last_shown h table' right met = record {
+      pub next_shown : RunTo p m (n + 1) (set run (n + 1) row) table'
+      next_shown = record {
         within = omega arith;
-        held = to.held;
+        held = held_set to.held (n + 1) row long there;
         values_right = right;
-        inputs_right = to.inputs_right;
-        latches_right = λ t i a q. to.latches_right t i (omega arith) q;
+        inputs_right = λ t i a q. input_still t i q (ℕ_discrete t (n + 1)) ∙ to.inputs_right t i a q;
+        latches_right = λ t i a b q. latch_there t i a b q (ℕ_discrete t (n + 1));
         constraints_met = met_to met;
       }
-
-      -- The latches of the next position, put into its row.
-      module _ (h : n < s.bound) (table' : List Bool) (right : RowsRight p (bytes p m) (n + 1) table')
-          (met : meets_constraints p (position p (bytes p m) n) ≡ true)
-          (row : List Bool) (put : row ≡ sets (get_or run (n + 1) []) s.inputs (next_in p (row_in table' n))) where
-        there : n + 1 < positions_limit
-        unfolding bound_limit positions_limit
-        there = omega (arith, proper.bound_within)
-
-        long : length row ≡ length (get_or run (n + 1) [])
-        long = ap length put ∙ simp length-sets
-
-        fits : s.inputs + s.latches ≤ length (get_or run (n + 1) [])
-        unfolding inputs_limit latches_limit given_limit
-        fits = omega (arith, to.held.bits_there (n + 1) there, proper)
-
-        begins : take (s.inputs + s.latches) row ≡ take s.inputs (get_or run (n + 1) []) ++ next_in p (row_in table' n)
-        begins =
-            ap (take (s.inputs + s.latches)) put
-            ∙ sets_there (get_or run (n + 1) []) s.inputs _ (length_next_in p (row_in table' n) ∙ z.latches_are) fits
-
-        inputs : (i : ℕ) → i < s.inputs → get_or row i false ≡ get_or (get_or run (n + 1) []) i false
-        inputs = put_after s.inputs s.latches (get_or run (n + 1) []) row _ (omega (arith, fits)) begins
-
-        latches : (i : ℕ) → i < s.latches → get_or row (s.inputs + i) false ≡ literal_value (row_in table' n) (latch p i).next
-        latches i q =
-            put_at s.inputs s.latches (get_or run (n + 1) []) row _ (omega (arith, fits)) begins i q
-            ∙ next_by_row p (row_in table' n) i (omega arith)
-
-        input_still : (t i : ℕ) → i < p.inputs → Dec (t ≡ n + 1) → bit (set run (n + 1) row) t i ≡ bit run t i
-        input_still t i q (yes e) = rw e (bit_set to.held (n + 1) row long there i ∙ inputs i (omega arith))
-        input_still t i q (no d) = bit_other run (n + 1) row t i d
-
-        next_latch : (i : ℕ) → i < length p.latches → get_or row (p.inputs + i) false ≡ get_or (position p (bytes p m) (n + 1)).latches i false
-        next_latch i q =
-            rw z.inputs_are (latches i (omega arith)) ∙ next_value_in right proper {t = n} (omega arith) i q
-            ∙ rw (add-one n, position_next p (bytes p m) n (omega arith))
-
-        latch_there : (t i : ℕ) → t ≤ n + 1 → t ≤ p.bound → i < length p.latches → Dec (t ≡ n + 1)
-            → bit (set run (n + 1) row) t (p.inputs + i) ≡ get_or (position p (bytes p m) t).latches i false
-        latch_there t i a b q (yes e) = rw e (bit_set to.held (n + 1) row long there (p.inputs + i) ∙ next_latch i q)
-        latch_there t i a b q (no d) = bit_other run (n + 1) row t (p.inputs + i) d ∙ to.latches_right t i (omega arith) b q
-
-        pub next_shown : RunTo p m (n + 1) (set run (n + 1) row) table'
-        next_shown = record {
-          within = omega arith;
-          held = held_set to.held (n + 1) row long there;
-          values_right = right;
-          inputs_right = λ t i a q. input_still t i q (ℕ_discrete t (n + 1)) ∙ to.inputs_right t i a q;
-          latches_right = λ t i a b q. latch_there t i a b q (ℕ_discrete t (n + 1));
-          constraints_met = met_to met;
-        }

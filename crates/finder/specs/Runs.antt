@@ -1,10 +1,12 @@
 -- The runs of a problem by their numbers, in byte order, and the tables that hold one. Assumes nothing.
+use Rattle.finder.specs.declared.run.TheConstants.{GIVEN}
+use Rattle.values.specs.declared.rows.TheConstants.{POSITIONS}
 use Rattle.std.specs.Prelude.{Bool, true, false, List, [], ◌∷◌, ◌++◌, map, ◌≡◌, ℕ, zero, suc, ◌+◌, ◌*◌, ◌/◌, ◌%◌, ◌^◌, ◌<◌, ◌≤◌, eqb, length, get_or, replicate}
-use Rattle.answers.specs.Limits.{inputs_limit, latches_limit}
 use Rattle.meaning.specs.Problem.{Problem, Latch}
+use Rattle.meaning.specs.Proper.{Proper}
 use Rattle.meaning.specs.Runs.{meets_constraints}
 use Rattle.meaning.specs.Witnesses.{byte, position}
-use Rattle.values.specs.Tables.{RowsRight, positions_limit}
+use Rattle.values.specs.Tables.{RowsRight}
 
 -- ════════ The bytes of a run ════════
 
@@ -43,18 +45,15 @@ byte_of true = 1
 
 -- ════════ The table of a run ════════
 
--- A row has a bit for each input and then for each latch, however many there are, and there is a row for each position.
-unfoldable pub given_limit : ℕ
-given_limit = inputs_limit + latches_limit
-
 -- The bit at a place of a position's row: input i, or latch i behind the inputs.
 abbrev pub bit : List (List Bool) → ℕ → ℕ → Bool
 bit run t i = get_or (get_or run t []) i false
 
--- A table has all its rows and bits, whatever they are.
+-- A table has a row for each position, and a row a bit for each input and then for each latch, however many there are. Behind a reference an array
+-- tells a proof its own length and not that of its rows.
 pub record Held (run : List (List Bool)) : Type 0 where
-  pub rows_there : length run ≡ positions_limit
-  pub bits_there : (t : ℕ) → t < positions_limit → length (get_or run t []) ≡ given_limit
+  pub rows_there : length run ≡ POSITIONS
+  pub bits_there : (t : ℕ) → t < POSITIONS → length (get_or run t []) ≡ GIVEN
 
 -- The inputs of every position, and the latches of the first, are those of run m.
 pub record Filled (p : Problem) (m : ℕ) (run : List (List Bool)) : Type 0 where
@@ -63,8 +62,9 @@ pub record Filled (p : Problem) (m : ℕ) (run : List (List Bool)) : Type 0 wher
       → bit run t i ≡ eqb (byte (run_bytes p m) (length p.latches + p.inputs * t + i)) 1
   pub latches_right : (i : ℕ) → i < length p.latches → bit run 0 (p.inputs + i) ≡ eqb (byte (run_bytes p m) i) 1
 
--- The first n positions of run m meet the constraints, and stand in the run's table and in that of the values.
+-- The first n positions of run m of a proper problem meet the constraints, and stand in the run's table and in that of the values.
 pub record Shown (p : Problem) (m n : ℕ) (run : List (List Bool)) (table : List Bool) : Type 0 where
+  pub proper : Proper p
   pub held : Held run
   pub values_right : RowsRight p (0 ∷ run_bytes p m) n table
   pub latches_right : (t i : ℕ) → t < n → i < length p.latches

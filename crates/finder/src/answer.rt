@@ -1,30 +1,30 @@
-// The number and place of each answer to a search.
+// Document 02's number and place of each answer to a search.
 ghost use Rattle.std.specs.Prelude.{◌≡◌};
-ghost use Rattle.finder.specs.Promise.{answer_of};
+ghost use Rattle.answers.specs.Table.{row_of};
+ghost use Rattle.finder.specs.Promise.{answer_of, not_found_answer};
 
-use crate::Finding;
-use problem::answer::{refusal_number, refusal_place};
+use crate::NotFound;
+use answers::answer::Answer;
 
-pub fn number(a: Finding) -> u32
-    ensures { result ≡ (answer_of a).number }
-{
-    match a {
-        Finding::Found(_) => 0,
-        Finding::Problem(f) => refusal_number(f),
-        Finding::TooMuchOpen(_) => 17,
-        Finding::RoomTooSmall(_) => 18,
-        Finding::NoneExists => 29,
+impl From<NotFound> for Answer {
+    ghost from_gives = { λ f a. row_of a ≡ not_found_answer f };
+
+    fn from(f: NotFound) -> Answer {
+        match f {
+            NotFound::Problem(f) => Answer::from(f),
+            NotFound::TooMuchOpen(n) => Answer::new(17, n),
+            NotFound::RoomTooSmall(n) => Answer::new(18, n),
+            NotFound::NoneExists => Answer::new(29, 0),
+        }
     }
 }
 
-pub fn place(a: Finding) -> usize
-    ensures { result ≡ (answer_of a).place }
+// The row of what finding answers.
+pub fn answer(r: Result<usize, NotFound>) -> Answer
+    ensures { row_of result ≡ answer_of r }
 {
-    match a {
-        Finding::Found(n) => n,
-        Finding::Problem(f) => refusal_place(f),
-        Finding::TooMuchOpen(n) => n,
-        Finding::RoomTooSmall(n) => n,
-        Finding::NoneExists => 0,
+    match r {
+        Ok(n) => Answer::new(0, n),
+        Err(f) => Answer::from(f),
     }
 }

@@ -12,12 +12,22 @@ mod rows;
 mod run;
 mod search;
 
-// The answers to a search; `answer` gives the number and the place of each.
-#[derive(Clone, Copy)]
-pub enum Finding {
-    Found(usize),
+// Why no witness was found; `answer` gives the number and the place of each.
+#[derive(Clone, Copy, Debug, PartialEq, Eq)]
+pub enum NotFound {
     Problem(Refusal),
     TooMuchOpen(usize),
     RoomTooSmall(usize),
     NoneExists,
+}
+
+impl From<Refusal> for NotFound {
+    ghost use Rattle.std.specs.Prelude.{◌≡◌};
+    ghost use Rattle.finder.specs.declared.NotFound.TheVariants.{Problem};
+
+    ghost from_gives = { λ f e. e ≡ Problem f };
+
+    fn from(f: Refusal) -> NotFound {
+        NotFound::Problem(f)
+    }
 }

@@ -1,27 +1,24 @@
 // A candidate run by value: an array of arrays, a row of input and latch bits for each position. Its open bits are the digits of its number.
 ghost use Rattle.std.specs.Prelude.{false, ◌≡◌, ℕ, ◌+◌, ◌-◌, ◌*◌, ◌/◌, ◌^◌, ◌<◌, ◌≤◌, eqb, length, get_or};
-ghost use Rattle.answers.specs.Limits.{inputs_limit, bound_limit};
 ghost use Rattle.meaning.specs.Witnesses.{byte};
-ghost use Rattle.problem.specs.Promise.{problem_in, ProperIn};
 ghost use Rattle.finder.specs.Runs.{Held, Filled, digit, resets, bytes_by, bit};
 
 use answers::limits::{INPUTS_LIMIT, LATCHES_LIMIT};
-use problem::Outline;
-use problem::read::{FREE, latch_reset};
+use problem::good::Problem;
+use problem::read::FREE;
 use values::rows::POSITIONS;
 
 // A bit for each input and each latch of a position, however many there are.
 pub(crate) const GIVEN: usize = (INPUTS_LIMIT + LATCHES_LIMIT) as usize;
 
-// The inputs of one position by the lowest digits of a number, the last input lowest; answers the digits that are left.
+// The inputs of one position by the lowest digits of a number, the last input lowest; answers the digits that are left. By their numbers, which
+// say the digit of each.
 fn inputs_by(inputs: u32, digits: u32, row: &mut [bool]) -> u32
     requires { inputs ≤ length row.old }
     ensures { (result ≡ digits / 2 ^ inputs) × ((i : ℕ) → i < inputs → get_or row.new i false ≡ eqb (digit digits (inputs - 1 - i)) 1) × ((i : ℕ) → inputs ≤ i → get_or row.new i false ≡ get_or row.old i false) }
 {
     let mut rest = digits;
-    let mut i = inputs;
-    while 0 < i {
-        i -= 1;
+    for i in (0..inputs).rev() {
         row[i as usize] = rest % 2 == 1;
         rest /= 2;
     }
@@ -29,30 +26,28 @@ fn inputs_by(inputs: u32, digits: u32, row: &mut [bool]) -> u32
 }
 
 // The inputs of all positions, the last position lowest; answers the digits that are left.
-fn all_inputs_by(s: Outline, m: u32, run: &mut [[bool; GIVEN]; POSITIONS]) -> u32
-    requires { (s.inputs ≤ inputs_limit) × (s.bound ≤ bound_limit) × Held run.old }
-    ensures { (result ≡ m / 2 ^ (s.inputs * (s.bound + 1))) × Held run.new × ((t i : ℕ) → t ≤ s.bound → i < s.inputs → bit run.new t i ≡ eqb (digit m (s.inputs * (s.bound + 1) - 1 - (s.inputs * t + i))) 1) }
+#[tactic(auto, unfolding(answers::specs::Limits::bound_limit))]
+fn all_inputs_by(p: &Problem, m: u32, run: &mut [[bool; GIVEN]; POSITIONS]) -> u32
+    requires { Held run.old }
+    ensures { (result ≡ m / 2 ^ (p.now.inputs * (p.now.bound + 1))) × Held run.new × ((t i : ℕ) → t ≤ p.now.bound → i < p.now.inputs → bit run.new t i ≡ eqb (digit m (p.now.inputs * (p.now.bound + 1) - 1 - (p.now.inputs * t + i))) 1) }
 {
     let mut rest = m;
-    let mut t = s.bound + 1;
-    while 0 < t {
-        t -= 1;
-        rest = inputs_by(s.inputs, rest, &mut run[t as usize]);
+    for t in (0..=p.bound()).rev() {
+        rest = inputs_by(p.inputs(), rest, &mut run[t as usize]);
     }
     rest
 }
 
 // The first latches: a fixed one by its reset, a free one by the next digit.
-fn latches_by(words: &[u32], s: Outline, digits: u32, row: &mut [bool])
-    requires { ProperIn s words.now × (s.inputs + s.latches ≤ length row.old) }
-    ensures { ((i : ℕ) → i < s.latches → get_or row.new (s.inputs + i) false ≡ eqb (byte (bytes_by (resets (problem_in s words.now)) digits) i) 1) × ((i : ℕ) → i < s.inputs → get_or row.new i false ≡ get_or row.old i false) }
+#[tactic(auto, unfolding(answers::specs::Limits::inputs_limit, answers::specs::Limits::latches_limit))]
+fn latches_by(p: &Problem, digits: u32, row: &mut [bool])
+    requires { length row.old ≡ GIVEN }
+    ensures { ((i : ℕ) → i < length p.now.latches → get_or row.new (p.now.inputs + i) false ≡ eqb (byte (bytes_by (resets p.now) digits) i) 1) × ((i : ℕ) → i < p.now.inputs → get_or row.new i false ≡ get_or row.old i false) }
 {
     let mut rest = digits;
-    let mut i = s.latches;
-    while 0 < i {
-        i -= 1;
-        let at = (s.inputs as usize) + (i as usize);
-        let reset = latch_reset(words, s, i);
+    for i in (0..p.latches()).rev() {
+        let at = (p.inputs() + i) as usize;
+        let reset = p.shown().latch_reset(i);
         if reset == FREE {
             row[at] = rest % 2 == 1;
             rest /= 2;
@@ -63,10 +58,11 @@ fn latches_by(words: &[u32], s: Outline, digits: u32, row: &mut [bool])
 }
 
 // The inputs, and the latches at the first position, of run m.
-pub(crate) fn fill(words: &[u32], s: Outline, m: u32, run: &mut [[bool; GIVEN]; POSITIONS])
-    requires { ProperIn s words.now × Held run.old }
-    ensures { Filled (problem_in s words.now) m run.new }
+#[tactic(auto, unfolding(answers::specs::Limits::inputs_limit, answers::specs::Limits::latches_limit))]
+pub(crate) fn fill(p: &Problem, m: u32, run: &mut [[bool; GIVEN]; POSITIONS])
+    requires { Held run.old }
+    ensures { Filled p.now m run.new }
 {
-    let digits = all_inputs_by(s, m, run);
-    latches_by(words, s, digits, &mut run[0]);
+    let digits = all_inputs_by(p, m, run);
+    latches_by(p, digits, &mut run[0]);
 }

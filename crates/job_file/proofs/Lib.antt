@@ -2,7 +2,6 @@
 pub mod JobOrder
 pub mod JobChecks
 pub mod ReadWords
-pub mod WordText
 pub mod WordsText
 pub mod Prints
 pub mod TextLengths

@@ -1,4 +1,5 @@
 -- Whatever bytes a job has, the text that is printed for it fits the program's room. Assumes nothing.
+use Rattle.std.proofs.Common.{Err}
 use mathlib.Core.Path.{◌≡◌, refl, sym, ◌∙◌, ap}
 use mathlib.Core.Bool.{Bool, true, false, ◌&&◌, cond}
 use mathlib.Core.List.{List, [], ◌∷◌}
@@ -32,7 +33,6 @@ use Rattle.meaning.proofs.ItemByItem.{◌and◌, all_of_joined}
 use Rattle.meaning.proofs.Numbers.{all_of_each_below}
 use Rattle.meaning.proofs.Ranges.{literals_within, variables_fit}
 use Rattle.meaning.proofs.AllLimits.{largest_if_proper}
-use Rattle.job_file.specs.declared.texts.Printed.TheVariants.{Short}
 use Rattle.job_file.specs.Text.{text_limit}
 use Rattle.job_file.specs.Promise.{Prints}
 use Rattle.job_file.proofs.JobChecks.{at_too_long, job_checks_refusing}
@@ -225,7 +225,7 @@ module _ (bs : List ℕ) where
 -- ════════ The program ════════
 
 pub never_short : (bs : List ℕ) {out : List ℕ} {n : ℕ} {out' : List ℕ} → text_limit ≤ length out
-    → Prints (printed bs) out (Short n) out' → ⊥
+    → Prints (printed bs) out (Err n) out' → ⊥
 never_short bs room p = omega (arith, printed_fits bs, short_without_room p)
 
 -- To read one byte more than a job may have is enough: what is printed for the first bytes is printed for all.

@@ -6,7 +6,7 @@ use native.Mathlib.Numerals.{add-one}
 use native.Mathlib.Omega.{arith}
 use lib.IntN.{ℤ, pos}
 use lib.ListN.{length, get_or, take, drop, length-append, take-append-drop}
-use lib.Seq.{take-suc, take-length}
+use lib.Seq.{take-suc}
 use Rattle.text.specs.Promise.{largest_size}
 use Rattle.text.proofs.Buffers.{Put, put_then, put_length}
 use Rattle.meaning.proofs.Numbers.{each_append}
@@ -43,7 +43,3 @@ module _ (ws : List ℤ) (i : ℕ) (h : i < length ws) where
 
     pub put_next_word : {m : ℕ} {q : List ℕ} → Put (word_text (get_or ws i (pos 0))) n p m q → Put (words_text (take (i + 1) ws)) at o m q
     put_next_word next = rw words_text_more (put_then room_before so_far next)
-
-pub put_all_words : (ws : List ℤ) (i : ℕ) → i ≡ length ws → {at n : ℕ} {o p : List ℕ}
-    → Put (words_text (take i ws)) at o n p → Put (words_text ws) at o n p
-put_all_words ws i e put = rw (e, take-length) at put

@@ -17,7 +17,9 @@ use Rattle.meaning.specs.Cnf.{cnf_words}
 use Rattle.meaning.specs.Calls.{WellFormed, write_cnf, room_after_writing}
 use Rattle.meaning.proofs.Check.{well_formed_if_checked, checked_if_well_formed}
 use Rattle.meaning.proofs.Calls.{write_cnf_is}
-use Rattle.encoder.specs.declared.Encoded.{Encoded}
+use Rattle.std.specs.Prelude.{Result}
+use Rattle.counts.specs.declared.Counts.{Counts}
+use Rattle.encoder.specs.declared.NotWritten.{NotWritten}
 use Rattle.encoder.specs.Promise.{answer_of, EncodedAs}
 
 module _ (version : ℕ) (ws : List ℕ) where
@@ -40,7 +42,7 @@ module _ (version : ℕ) (ws : List ℕ) where
 
   -- ════════ The room ════════
 
-  module _ {before after : List ℤ} {r : Encoded} (e : EncodedAs version ws before r after) (yes : (answer_of r).number ≡ 0) where
+  module _ {before after : List ℤ} {r : Result Counts NotWritten} (e : EncodedAs version ws before r after) (yes : (answer_of r).number ≡ 0) where
     fits : ((write_cnf version ws (length before)).place ≡ needed) × (needed ≤ length before)
     fits = fits_if_written (length before) (number_of (sym e.answered) ∙ yes)
 

@@ -1,13 +1,13 @@
 -- The text of a CNF given as flat words. Assumes nothing.
-use Rattle.std.specs.Prelude.{cond, List, ◌++◌, ℕ, ◌+◌, ◌*◌, ℤ, take}
+use Rattle.std.specs.Prelude.{cond, List, ◌++◌, ℕ, ◌+◌, ◌*◌, ℤ, take, Result, Ok, Err}
 use Rattle.answers.specs.Lists.{each}
 use Rattle.clauses.specs.CnfWords.{is_0}
 use Rattle.text.specs.Numbers.{bytes_of, decimal, signed_decimal}
 use Rattle.answers.specs.Limits.{program_room}
 use Rattle.job_file.specs.JobFile.{header_line, refusal_line}
-use Rattle.encoder.specs.declared.Encoded.{Encoded}
-use Rattle.encoder.specs.declared.Encoded.TheVariants.{Written, Problem, RoomTooSmall}
-use Rattle.encoder.specs.Promise.{answer_of}
+use Rattle.counts.specs.declared.Counts.{Counts}
+use Rattle.encoder.specs.declared.NotWritten.{NotWritten}
+use Rattle.encoder.specs.Promise.{not_written_answer}
 
 -- The word 0 ends its line; after another word comes a space.
 abbrev pub word_text : ℤ → List ℕ
@@ -24,10 +24,9 @@ abbrev pub line_of : List ℕ → ℕ → List ℕ → ℕ → List ℕ
 line_of opening first between second = opening ++ decimal first ++ between ++ decimal second ++ bytes_of "\n"
 
 -- What is printed by the outcome of writing: the text of the CNF's numbers and of the words that were written to the room, or the refusal's line.
-abbrev pub encoded_text : Encoded → List ℤ → List ℕ
-encoded_text (Written n) room = flat_text n.variables n.clauses (take n.words room)
-encoded_text (Problem f) room = refusal_line (answer_of (Problem f))
-encoded_text (RoomTooSmall n) room = refusal_line (answer_of (RoomTooSmall n))
+abbrev pub encoded_text : Result Counts NotWritten → List ℤ → List ℕ
+encoded_text (Ok n) room = flat_text n.variables n.clauses (take n.words room)
+encoded_text (Err e) room = refusal_line (not_written_answer e)
 
 -- Bytes enough for every text of the program: 12 for each of its CNF words (a sign, ten digits, a space), and 28 for the header (8 of its
 -- own, ten digits for each of its numbers).

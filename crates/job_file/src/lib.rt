@@ -1,8 +1,7 @@
 // Document 01's job file and program: a job file read, and what is printed for it.
 #![tactic(auto)]
 
-mod answer;
-pub mod job;
+mod job;
 pub mod print;
 mod put;
-pub mod texts;
+mod texts;

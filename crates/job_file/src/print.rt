@@ -5,39 +5,41 @@ ghost use Rattle.encoder.specs.Promise.{answer_of};
 ghost use Rattle.job_file.specs.Text.{encoded_text};
 ghost use Rattle.job_file.specs.Promise.{Prints};
 
-use crate::answer::{job_number, job_place};
-use crate::job::{JobAnswer, read_job};
-use crate::texts::{Printed, cnf_text, refusal_text};
+use crate::job::read_job;
+use crate::texts::{cnf_text, refusal_text};
+use answers::answer::Answer;
 use answers::limits::PROGRAM_ROOM;
-use encoder::Encoded;
-use encoder::answer::{number, place};
+use counts::Counts;
+use encoder::NotWritten;
 use encoder::encode::write_cnf;
 
+const BAD_JOB: u32 = 15;
+
 // The text of the CNF that was written to the room, or the line of a refusal.
-fn print_encoded(r: Encoded, room: &[i32], out: &mut [u8]) -> Printed
+fn print_encoded(
+    r: Result<Counts, NotWritten>,
+    room: &[i32],
+    out: &mut [u8],
+) -> Result<usize, usize>
     requires { (answer_of r).number ≡ 0 → (answer_of r).place ≤ length room.now }
     ensures { Prints (encoded_text r room.now) out.old result out.new }
 {
     match r {
-        Encoded::Written(n) => cnf_text(n.variables, n.clauses, &room[..n.words], out),
-        _ => refusal_text(number(r), place(r), out),
+        Ok(n) => cnf_text(n.variables, n.clauses, &room[..n.words], out),
+        Err(e) => refusal_text(Answer::from(e), out),
     }
 }
 
-// The program: its standard input as bytes, and what it prints for them.
-pub fn print_job(bytes: &[u8], out: &mut [u8]) -> Printed
+// The program: its standard input as bytes, and what it prints for them: the bytes that were written, or those that it needs.
+pub fn print_job(bytes: &[u8], out: &mut [u8]) -> Result<usize, usize>
     ensures { Prints (printed bytes.now) out.old result out.new }
 {
-    let job = read_job(bytes);
-    let answer = job.answer;
-    if let JobAnswer::Bad(_) = answer {
-        return refusal_text(job_number(answer), job_place(answer), out);
+    match read_job(bytes) {
+        Err(place) => refusal_text(Answer::new(BAD_JOB, place), out),
+        Ok(job) => {
+            let mut room = [0; PROGRAM_ROOM];
+            let encoded = write_cnf(job.version, &job.words[..job.count], &mut room);
+            print_encoded(encoded, &room, out)
+        }
     }
-    let version = job.version;
-    let count = job.count;
-    let held = job.words;
-    let words = &held[..count];
-    let mut room = [0i32; PROGRAM_ROOM];
-    let encoded = write_cnf(version, words, &mut room);
-    print_encoded(encoded, &room, out)
 }

@@ -1,21 +1,15 @@
 // The texts that the program prints.
 ghost use Rattle.std.specs.Prelude.{◌≡◌, ◌+◌, ◌≤◌, length};
-ghost use Rattle.answers.specs.Answers.{answer};
+ghost use Rattle.answers.specs.Table.{row_of};
 ghost use Rattle.text.proofs.Buffers.{Put};
 ghost use Rattle.job_file.specs.JobFile.{header_line, refusal_line};
 ghost use Rattle.job_file.specs.Text.{word_text, words_text, flat_text};
 ghost use Rattle.job_file.specs.Promise.{size, Prints};
 
 use crate::put::put_line;
+use answers::answer::Answer;
 use clauses::literals::variable;
 use text::put::{digits, put_bytes, put_ended, sum};
-
-// The bytes of a text that was written, or those that it needs.
-#[derive(Clone, Copy)]
-pub enum Printed {
-    Bytes(usize),
-    Short(usize),
-}
 
 fn word_size(w: i32) -> usize
     ensures { result ≡ length (word_text w) }
@@ -47,10 +41,8 @@ fn words_size(cnf: &[i32]) -> usize
     ensures { result ≡ size (words_text cnf.now) }
 {
     let mut bytes = 0;
-    let mut i = 0;
-    while i < cnf.len() {
-        bytes = sum(bytes, word_size(cnf[i]));
-        i += 1;
+    for w in cnf {
+        bytes = sum(bytes, word_size(*w));
     }
     bytes
 }
@@ -60,10 +52,8 @@ fn put_words(cnf: &[i32], at: usize, out: &mut [u8]) -> usize
     ensures { Put (words_text cnf.now) at out.old result out.new }
 {
     let mut next = at;
-    let mut i = 0;
-    while i < cnf.len() {
-        next = put_word(cnf[i], next, out);
-        i += 1;
+    for w in cnf {
+        next = put_word(*w, next, out);
     }
     next
 }
@@ -74,31 +64,36 @@ fn header_size(variables: usize, clauses: usize) -> usize
     digits(variables) + digits(clauses) + 8
 }
 
-// The text of a CNF given as words, each clause ended by 0.
-pub(crate) fn cnf_text(variables: usize, clauses: usize, cnf: &[i32], out: &mut [u8]) -> Printed
+// The text of a CNF given as words, each clause ended by 0: the bytes that were written, or those that it needs.
+pub(crate) fn cnf_text(
+    variables: usize,
+    clauses: usize,
+    cnf: &[i32],
+    out: &mut [u8],
+) -> Result<usize, usize>
     ensures { Prints (flat_text variables clauses cnf.now) out.old result out.new }
 {
     let needed = sum(header_size(variables, clauses), words_size(cnf));
     if out.len() < needed {
-        return Printed::Short(needed);
+        return Err(needed);
     }
     let next = put_line(b"p cnf ", variables, b" ", clauses, out);
-    Printed::Bytes(put_words(cnf, next, out))
+    Ok(put_words(cnf, next, out))
 }
 
-fn refusal_size(number: u32, place: usize) -> usize
-    ensures { result ≡ length (refusal_line (answer number place)) }
+fn refusal_size(a: Answer) -> usize
+    ensures { result ≡ length (refusal_line (row_of a)) }
 {
-    digits(number as usize) + digits(place) + 13
+    digits(a.number as usize) + digits(a.place) + 13
 }
 
-// The line of a refusal.
-pub(crate) fn refusal_text(number: u32, place: usize, out: &mut [u8]) -> Printed
-    ensures { Prints (refusal_line (answer number place)) out.old result out.new }
+// The line of a refusal, as of a CNF.
+pub(crate) fn refusal_text(a: Answer, out: &mut [u8]) -> Result<usize, usize>
+    ensures { Prints (refusal_line (row_of a)) out.old result out.new }
 {
-    let needed = refusal_size(number, place);
+    let needed = refusal_size(a);
     if out.len() < needed {
-        return Printed::Short(needed);
+        return Err(needed);
     }
-    Printed::Bytes(put_line(b"refused ", number as usize, b" at ", place, out))
+    Ok(put_line(b"refused ", a.number as usize, b" at ", a.place, out))
 }

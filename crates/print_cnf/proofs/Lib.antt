@@ -1,2 +1,3 @@
 -- What the answers exclude.
 pub mod Lazy
+pub mod WholeInput

@@ -19,13 +19,12 @@ use Rattle.counts.specs.Promise.{counts_of}
 use Rattle.problem.specs.declared.Outline.{Outline}
 use Rattle.problem.specs.declared.ProblemRecord.{ProblemRecord}
 use Rattle.problem.specs.declared.Refusal.{Refusal}
-use Rattle.problem.specs.declared.Checked.{Checked}
-use Rattle.problem.specs.declared.parts.PartAnswer.{PartAnswer}
-use Rattle.problem.specs.declared.parts.PartAnswer.TheVariants.{Passed, Refused}
+use Rattle.std.specs.Prelude.{Result, Ok, Err, ⊤, IsErrAnd}
+use Rattle.std.proofs.lemmas.Result.{err_from_is_err_and}
 use Rattle.problem.specs.Promise.{refusal_answer, outline_of, problem_in, ProperIn, CountedIn, Outlined, CheckedAs}
 use Rattle.problem.specs.CheckParts.{Answers}
 use Rattle.problem.proofs.Unique.{refusal_not_yes}
-use Rattle.problem.proofs.Answered.{passed_first, refused_first}
+use Rattle.problem.proofs.Answered.{passed_first, refused_first, part_passes, part_refuses}
 
 -- ════════ The outline ════════
 
@@ -47,7 +46,7 @@ passes_if_handed_on cs hands_on = go (all_of passing cs) refl
         let same = hands_on (granted 0) ∙ first_failing_refused cs (granted 0) (granted 1) e ∙ sym (hands_on (granted 1)) in
         absurd (let places = place_of same in omega arith)
 
-parts_by : (ws : List ℕ) {o o' : problems.Outline} {r : PartAnswer} → o ≡ o' → Answers (outline_parts_with children o ws) r → Answers (outline_parts_with children o' ws) r
+parts_by : (ws : List ℕ) {o o' : problems.Outline} {r : Result ⊤ Refusal} → o ≡ o' → Answers (outline_parts_with children o ws) r → Answers (outline_parts_with children o' ws) r
 parts_by ws e a = rw e at a
 
 -- The parts before the outline: the header and its limits.
@@ -55,31 +54,27 @@ abbrev pub opening : ℕ → List ℕ → List (List Check)
 opening version ws = header_checks version ws ∷ limit_checks version ws ∷ []
 
 module _ (version : ℕ) (ws : List ℕ) where
-  pub in_limits_if_passed : Answers (opening version ws) Passed → InLimits (outline version ws)
+  pub in_limits_if_passed : Answers (opening version ws) (Ok (tt {0})) → InLimits (outline version ws)
   in_limits_if_passed a =
       let all = passes_if_handed_on (joined (opening version ws)) (λ after. a.answered after ∙ first_failing_joined (opening version ws) after) in
       in_limits_if_pass version ws ((all_of_joined passing (opening version ws)).0 all).1.0
 
-  -- The nodes of the formula are those of the words.
-  pub nodes_as_written : {s : Outline} → outline_of s ≡ outline version ws → s.formula_nodes ≡ s.written_nodes
-  nodes_as_written e = ap (λ o. o.formula_nodes) e ∙ sym (ap (λ o. o.written_nodes) e)
-
   -- ════════ The whole ════════
 
-  pub refused_by_opening : {f : Refusal} → Answers (opening version ws) (Refused f) → CheckedAs version ws (Checked.Refused f)
+  pub refused_by_opening : {f : Refusal} → Answers {A = ⊤} (opening version ws) (Err f) → CheckedAs version ws (Err f)
   unfolding check_problem
-  refused_by_opening a = record { answered = (refused_first (opening version ws) (outline_parts_with children (outline version ws) ws) a).answered (granted 0); outlined = tt; counted = tt }
+  refused_by_opening a = record { answered = (refused_first {B = ⊤} (opening version ws) (outline_parts_with children (outline version ws) ws) a).answered (granted 0); outlined = tt; counted = tt }
 
-  module _ {s : Outline} (passed : Answers (opening version ws) Passed) (is : outline_of s ≡ outline version ws) where
-    all : {r : PartAnswer} → Answers (outline_parts_with children (outline_of s) ws) r → Answers (header_checks version ws ∷ limit_checks version ws ∷ outline_parts_with children (outline version ws) ws) r
+  module _ {s : Outline} (passed : Answers (opening version ws) (Ok (tt {0}))) (is : outline_of s ≡ outline version ws) where
+    all : {r : Result ⊤ Refusal} → Answers (outline_parts_with children (outline_of s) ws) r → Answers (header_checks version ws ∷ limit_checks version ws ∷ outline_parts_with children (outline version ws) ws) r
     all b = passed_first (opening version ws) (outline_parts_with children (outline version ws) ws) passed (parts_by ws is b)
 
-    pub refused_by_parts : {f : Refusal} → Answers (outline_parts_with children (outline_of s) ws) (Refused f) → CheckedAs version ws (Checked.Refused f)
+    pub refused_by_parts : {f : Refusal} → Answers {A = ⊤} (outline_parts_with children (outline_of s) ws) (Err f) → CheckedAs version ws (Err f)
     unfolding check_problem
     refused_by_parts b = record { answered = (all b).answered (granted 0); outlined = tt; counted = tt }
 
     -- Where all parts pass, the outline shows a proper problem, that of the version and the words.
-    module _ (parts : Answers (outline_parts_with children (outline_of s) ws) Passed) where
+    module _ (parts : Answers (outline_parts_with children (outline_of s) ws) (Ok (tt {0}))) where
       formed : WellFormed version ws
       unfolding check_problem
       formed = sym ((all parts).answered (granted 0))
@@ -91,16 +86,23 @@ module _ (version : ℕ) (ws : List ℕ) where
       pub proper_by_parts : ProperIn s ws
       proper_by_parts = proper_if_outlined formed outlined_by_parts
 
-      pub good_by_parts : {c : Counts} → c ≡ counts_of (problem_in s ws) → CheckedAs version ws (Checked.Good (record { outline = s; counts = c }))
+      pub good_by_parts : {c : Counts} → c ≡ counts_of (problem_in s ws) → CheckedAs version ws (Ok (record { outline = s; counts = c }))
       good_by_parts e = record {
         answered = sym formed;
         outlined = outlined_by_parts;
         counted = rw outlined_by_parts.problem_is at e;
       }
 
+-- What a `?` returns at a refusal.
+pub at_refusal : {version : ℕ} {ws : List ℕ} {r : Result ProblemRecord Refusal} {f : Refusal} → IsErrAnd r (λ e. e ≡ f) → CheckedAs version ws (Err f) → CheckedAs version ws r
+at_refusal {r} said a = let p = err_from_is_err_and r said in rw (p.1, p.2) a
+
+-- What `check` goes by.
+pub ruleset whole = (at_refusal, part_passes, part_refuses, in_limits_if_passed, refused_by_opening, refused_by_parts, proper_by_parts, good_by_parts)
+
 -- ════════ What a yes says ════════
 
-module _ {version : ℕ} {ws : List ℕ} {g : ProblemRecord} (good : CheckedAs version ws (Checked.Good g)) where
+module _ {version : ℕ} {ws : List ℕ} {g : ProblemRecord} (good : CheckedAs version ws (Ok g)) where
   pub well_formed_if_good : WellFormed version ws
   well_formed_if_good = sym good.answered
 

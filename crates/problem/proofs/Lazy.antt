@@ -14,8 +14,7 @@ use Rattle.problem.specs.declared.Outline.{Outline}
 use Rattle.problem.specs.declared.ProblemRecord.{ProblemRecord}
 use Rattle.problem.specs.declared.Refusal.{Refusal}
 use Rattle.problem.specs.declared.Refusal.TheVariants.{BadLength, BadReset, BadLiteral, BadNode}
-use Rattle.problem.specs.declared.Checked.{Checked}
-use Rattle.problem.specs.declared.Checked.TheVariants.{Good, Refused}
+use Rattle.std.specs.Prelude.{Result, Ok, Err}
 use Rattle.problem.specs.Promise.{answer_of, problem_in, Outlined, OutlinedBy, CountedBy, CheckedAs}
 use Rattle.problem.proofs.Unique.{checked_unique, outline_unique}
 
@@ -25,7 +24,7 @@ use Rattle.problem.proofs.Unique.{checked_unique, outline_unique}
 pub record Input : Type 0 where
   pub version : ℕ
   pub words : List ℕ
-  pub right : Checked
+  pub right : Result ProblemRecord Refusal
 
 -- The answer that document 01 lays down.
 unfoldable pub laid_down : Input → Answer
@@ -33,14 +32,14 @@ unfolding header_words inputs_limit latches_limit gates_limit nodes_limit bound_
 laid_down x = check_problem x.version x.words
 
 -- This outcome meets the promise for the input, or does not.
-abbrev pub Meets : Input → Checked → Type 0
+abbrev pub Meets : Input → Result ProblemRecord Refusal → Type 0
 Meets x r = CheckedAs x.version x.words r
 
-abbrev pub Breaks : Input → Checked → Type 0
+abbrev pub Breaks : Input → Result ProblemRecord Refusal → Type 0
 Breaks x r = ¬ (Meets x r)
 
 -- Whatever is not the right outcome breaks it; so does another number, and another place.
-module _ (x : Input) (r : Checked) (right : answer_of x.right ≡ laid_down x) where
+module _ (x : Input) (r : Result ProblemRecord Refusal) (right : answer_of x.right ≡ laid_down x) where
   pub other : OutlinedBy x.version x.words x.right → CountedBy x.version x.words x.right → ¬ (r ≡ x.right) → Breaks x r
   unfolding laid_down
   other outlined counted h m = h (checked_unique x.version x.words r x.right m (record { answered = right; outlined = outlined; counted = counted }))
@@ -55,10 +54,10 @@ module _ (x : Input) (r : Checked) (right : answer_of x.right ≡ laid_down x) w
 
 -- Words under version 1, and their record or their refusal.
 abbrev pub good : List ℕ → ProblemRecord → Input
-good words g = record { version = 1; words = words; right = Good g }
+good words g = record { version = 1; words = words; right = Ok g }
 
 abbrev pub bad : List ℕ → Refusal → Input
-bad words f = record { version = 1; words = words; right = Refused f }
+bad words f = record { version = 1; words = words; right = Err f }
 
 -- T's header over one latch and one node: 0 1 0 1 0, next reset, op a b
 abbrev pub t_with : ℕ → ℕ → ℕ → ℕ → ℕ → List ℕ
@@ -92,14 +91,14 @@ right_outline : Outlined 1 t_words t_outline
 unfolding header_words problem_in problem
 right_outline = record { outline_is = refl; problem_is = refl }
 
-pub t_meets : Meets T (Good t_record)
+pub t_meets : Meets T (Ok t_record)
 unfolding laid_down header_words problem_in problem_by problem variables cnf cnf_words
 t_meets = record { answered = refl; outlined = right_outline; counted = refl }
 
-pub refuses_all_breaks : (r : Checked) → ¬ (r ≡ Good t_record) → Breaks T r
-refuses_all_breaks r h m = h (checked_unique 1 t_words r (Good t_record) m t_meets)
+pub refuses_all_breaks : (r : Result ProblemRecord Refusal) → ¬ (r ≡ Ok t_record) → Breaks T r
+refuses_all_breaks r h m = h (checked_unique 1 t_words r (Ok t_record) m t_meets)
 
-pub made_up_outline_breaks : (g : ProblemRecord) → ¬ (g.outline ≡ t_outline) → Breaks T (Good g)
+pub made_up_outline_breaks : (g : ProblemRecord) → ¬ (g.outline ≡ t_outline) → Breaks T (Ok g)
 made_up_outline_breaks g h m = h (outline_unique g.outline t_outline (m.outlined.outline_is ∙ sym right_outline.outline_is))
 
 -- H with 12 R 1 at k = 3: 0 2 4 3 3, 3 0, 11 0, 2 5, 3 4, 7 9, 2 4, 0 12 0, 0 1 0, 7 0 1
@@ -124,7 +123,7 @@ h_release =
       counts = record { variables = 56; clauses = 177; words = 616 };
     })
 
-pub accepts_only_t_breaks : (r : Checked) → ¬ (r ≡ h_release.right) → Breaks h_release r
+pub accepts_only_t_breaks : (r : Result ProblemRecord Refusal) → ¬ (r ≡ h_release.right) → Breaks h_release r
 unfolding laid_down header_words problem_in problem_by problem variables cnf cnf_words
 accepts_only_t_breaks r = other h_release r refl (record { outline_is = refl; problem_is = refl }) refl
 
@@ -132,9 +131,9 @@ accepts_only_t_breaks r = other h_release r refl (record { outline_is = refl; pr
 abbrev pub no_words : Input
 no_words = bad [] (BadLength 0)
 
-pub accepts_all_breaks : (g : ProblemRecord) → Breaks no_words (Good g)
+pub accepts_all_breaks : (g : ProblemRecord) → Breaks no_words (Ok g)
 unfolding laid_down
-accepts_all_breaks g = other_number no_words (Good g) refl (λ e. omega arith)
+accepts_all_breaks g = other_number no_words (Ok g) refl (λ e. omega arith)
 
 -- ════════ A check left out ════════
 
@@ -188,77 +187,77 @@ right_itself = bad (0 ∷ 0 ∷ 1 ∷ 1 ∷ 0 ∷ 0 ∷ 3 ∷ 0 ∷ 0 ∷ 0 ∷ 
 
 -- Each takes its input for a good problem, of whatever record.
 module _ (g : ProblemRecord) where
-  pub length_not_checked_breaks : Breaks t_cut (Good g)
+  pub length_not_checked_breaks : Breaks t_cut (Ok g)
   unfolding laid_down
-  length_not_checked_breaks = other_number t_cut (Good g) refl (λ e. omega arith)
+  length_not_checked_breaks = other_number t_cut (Ok g) refl (λ e. omega arith)
 
-  pub reset_not_checked_breaks : Breaks t_reset (Good g)
+  pub reset_not_checked_breaks : Breaks t_reset (Ok g)
   unfolding laid_down
-  reset_not_checked_breaks = other_number t_reset (Good g) refl (λ e. omega arith)
+  reset_not_checked_breaks = other_number t_reset (Ok g) refl (λ e. omega arith)
 
-  pub next_past_the_variables_breaks : Breaks t_next (Good g)
+  pub next_past_the_variables_breaks : Breaks t_next (Ok g)
   unfolding laid_down
-  next_past_the_variables_breaks = other_number t_next (Good g) refl (λ e. omega arith)
+  next_past_the_variables_breaks = other_number t_next (Ok g) refl (λ e. omega arith)
 
-  pub atom_past_the_variables_breaks : Breaks t_atom (Good g)
+  pub atom_past_the_variables_breaks : Breaks t_atom (Ok g)
   unfolding laid_down
-  atom_past_the_variables_breaks = other_number t_atom (Good g) refl (λ e. omega arith)
+  atom_past_the_variables_breaks = other_number t_atom (Ok g) refl (λ e. omega arith)
 
-  pub op_8_breaks : Breaks t_op (Good g)
+  pub op_8_breaks : Breaks t_op (Ok g)
   unfolding laid_down
-  op_8_breaks = other_number t_op (Good g) refl (λ e. omega arith)
+  op_8_breaks = other_number t_op (Ok g) refl (λ e. omega arith)
 
-  pub unused_b_breaks : Breaks t_b (Good g)
+  pub unused_b_breaks : Breaks t_b (Ok g)
   unfolding laid_down
-  unused_b_breaks = other_number t_b (Good g) refl (λ e. omega arith)
+  unused_b_breaks = other_number t_b (Ok g) refl (λ e. omega arith)
 
-  pub g_with_two_children_breaks : Breaks g_of_two (Good g)
+  pub g_with_two_children_breaks : Breaks g_of_two (Ok g)
   unfolding laid_down
-  g_with_two_children_breaks = other_number g_of_two (Good g) refl (λ e. omega arith)
+  g_with_two_children_breaks = other_number g_of_two (Ok g) refl (λ e. omega arith)
 
-  pub g_without_a_child_breaks : Breaks g_of_none (Good g)
+  pub g_without_a_child_breaks : Breaks g_of_none (Ok g)
   unfolding laid_down
-  g_without_a_child_breaks = other_number g_of_none (Good g) refl (λ e. omega arith)
+  g_without_a_child_breaks = other_number g_of_none (Ok g) refl (λ e. omega arith)
 
-  pub node_is_its_own_child_breaks : Breaks t_itself (Good g)
+  pub node_is_its_own_child_breaks : Breaks t_itself (Ok g)
   unfolding laid_down
-  node_is_its_own_child_breaks = other_number t_itself (Good g) refl (λ e. omega arith)
+  node_is_its_own_child_breaks = other_number t_itself (Ok g) refl (λ e. omega arith)
 
-  pub node_is_its_own_second_child_breaks : Breaks both_itself (Good g)
+  pub node_is_its_own_second_child_breaks : Breaks both_itself (Ok g)
   unfolding laid_down
-  node_is_its_own_second_child_breaks = other_number both_itself (Good g) refl (λ e. omega arith)
+  node_is_its_own_second_child_breaks = other_number both_itself (Ok g) refl (λ e. omega arith)
 
-  pub gate_reads_itself_breaks : Breaks left_itself (Good g)
+  pub gate_reads_itself_breaks : Breaks left_itself (Ok g)
   unfolding laid_down
-  gate_reads_itself_breaks = other_number left_itself (Good g) refl (λ e. omega arith)
+  gate_reads_itself_breaks = other_number left_itself (Ok g) refl (λ e. omega arith)
 
-  pub gate_reads_itself_on_the_right_breaks : Breaks right_itself (Good g)
+  pub gate_reads_itself_on_the_right_breaks : Breaks right_itself (Ok g)
   unfolding laid_down
-  gate_reads_itself_on_the_right_breaks = other_number right_itself (Good g) refl (λ e. omega arith)
+  gate_reads_itself_on_the_right_breaks = other_number right_itself (Ok g) refl (λ e. omega arith)
 
 -- ════════ Places that are made up ════════
 
 module _ (i : ℕ) where
-  pub made_up_length_breaks : ¬ (i ≡ 9) → Breaks t_cut (Refused (BadLength i))
+  pub made_up_length_breaks : ¬ (i ≡ 9) → Breaks t_cut (Err (BadLength i))
   unfolding laid_down
-  made_up_length_breaks = other_place t_cut (Refused (BadLength i)) refl
+  made_up_length_breaks = other_place t_cut (Err (BadLength i)) refl
 
-  pub made_up_reset_place_breaks : ¬ (i ≡ 6) → Breaks t_reset (Refused (BadReset i))
+  pub made_up_reset_place_breaks : ¬ (i ≡ 6) → Breaks t_reset (Err (BadReset i))
   unfolding laid_down
-  made_up_reset_place_breaks = other_place t_reset (Refused (BadReset i)) refl
+  made_up_reset_place_breaks = other_place t_reset (Err (BadReset i)) refl
 
-  pub made_up_next_place_breaks : ¬ (i ≡ 5) → Breaks t_next (Refused (BadLiteral i))
+  pub made_up_next_place_breaks : ¬ (i ≡ 5) → Breaks t_next (Err (BadLiteral i))
   unfolding laid_down
-  made_up_next_place_breaks = other_place t_next (Refused (BadLiteral i)) refl
+  made_up_next_place_breaks = other_place t_next (Err (BadLiteral i)) refl
 
-  pub made_up_gate_place_breaks : ¬ (i ≡ 6) → Breaks right_itself (Refused (BadLiteral i))
+  pub made_up_gate_place_breaks : ¬ (i ≡ 6) → Breaks right_itself (Err (BadLiteral i))
   unfolding laid_down
-  made_up_gate_place_breaks = other_place right_itself (Refused (BadLiteral i)) refl
+  made_up_gate_place_breaks = other_place right_itself (Err (BadLiteral i)) refl
 
-  pub made_up_op_place_breaks : ¬ (i ≡ 7) → Breaks t_op (Refused (BadNode i))
+  pub made_up_op_place_breaks : ¬ (i ≡ 7) → Breaks t_op (Err (BadNode i))
   unfolding laid_down
-  made_up_op_place_breaks = other_place t_op (Refused (BadNode i)) refl
+  made_up_op_place_breaks = other_place t_op (Err (BadNode i)) refl
 
-  pub made_up_b_place_breaks : ¬ (i ≡ 9) → Breaks t_b (Refused (BadNode i))
+  pub made_up_b_place_breaks : ¬ (i ≡ 9) → Breaks t_b (Err (BadNode i))
   unfolding laid_down
-  made_up_b_place_breaks = other_place t_b (Refused (BadNode i)) refl
+  made_up_b_place_breaks = other_place t_b (Err (BadNode i)) refl

@@ -19,7 +19,7 @@ use Rattle.counts.specs.declared.Counts.{Counts}
 use Rattle.counts.specs.Promise.{counts_of}
 use Rattle.problem.specs.declared.Outline.{Outline}
 use Rattle.problem.specs.declared.ProblemRecord.{ProblemRecord}
-use Rattle.problem.specs.declared.Checked.TheVariants.{Good}
+use Rattle.std.specs.Prelude.{Ok}
 use Rattle.problem.specs.Promise.{problem_in, CheckedAs}
 use Rattle.problem.proofs.Formed.{well_formed_if_good}
 use Rattle.problem.proofs.Lazy.{Input, laid_down, Meets, Breaks, good, T, t_record, t_meets}
@@ -74,22 +74,22 @@ module _ (version : ℕ) (ws : List ℕ) (g : ProblemRecord) where
 
   -- ════════ Other numbers, whatever the words ════════
 
-  pub other_counts_break : ¬ (g.counts ≡ counts_of p) → ¬ (CheckedAs version ws (Good g))
+  pub other_counts_break : ¬ (g.counts ≡ counts_of p) → ¬ (CheckedAs version ws (Ok g))
   other_counts_break h m = h m.counted
 
-  pub other_variables_break : ¬ (g.counts.variables ≡ variables p) → ¬ (CheckedAs version ws (Good g))
+  pub other_variables_break : ¬ (g.counts.variables ≡ variables p) → ¬ (CheckedAs version ws (Ok g))
   other_variables_break h = other_counts_break (λ e. h (ap (λ (c : Counts). c.variables) e))
 
-  pub other_clauses_break : ¬ (g.counts.clauses ≡ length (cnf p)) → ¬ (CheckedAs version ws (Good g))
+  pub other_clauses_break : ¬ (g.counts.clauses ≡ length (cnf p)) → ¬ (CheckedAs version ws (Ok g))
   other_clauses_break h = other_counts_break (λ e. h (ap (λ (c : Counts). c.clauses) e))
 
-  pub other_words_break : ¬ (g.counts.words ≡ length (cnf_words p)) → ¬ (CheckedAs version ws (Good g))
+  pub other_words_break : ¬ (g.counts.words ≡ length (cnf_words p)) → ¬ (CheckedAs version ws (Ok g))
   other_words_break h = other_counts_break (λ e. h (ap (λ (c : Counts). c.words) e))
 
   -- ════════ Words or clauses left out ════════
 
   -- A yes says that there is a node.
-  node_if_good : CheckedAs version ws (Good g) → 1 ≤ length p.nodes
+  node_if_good : CheckedAs version ws (Ok g) → 1 ≤ length p.nodes
   node_if_good m = (proper_if_well_formed version ws (well_formed_if_good m)).nodes_some
 
   -- Item 1 is a clause.
@@ -98,14 +98,14 @@ module _ (version : ℕ) (ws : List ℕ) (g : ProblemRecord) where
   clause_there = omega arith
 
   -- The words without the 0 that ends each clause.
-  pub zeros_left_out_break : g.counts.words + length (cnf p) ≡ length (cnf_words p) → ¬ (CheckedAs version ws (Good g))
+  pub zeros_left_out_break : g.counts.words + length (cnf p) ≡ length (cnf_words p) → ¬ (CheckedAs version ws (Ok g))
   zeros_left_out_break without = other_words_break (λ e. omega (arith, clause_there))
 
   -- The clauses without (-E s(0)..s(k)) of each node, and the words without its k + 3.
-  pub closing_clauses_left_out_break : g.counts.clauses + length p.nodes ≡ length (cnf p) → ¬ (CheckedAs version ws (Good g))
+  pub closing_clauses_left_out_break : g.counts.clauses + length p.nodes ≡ length (cnf p) → ¬ (CheckedAs version ws (Ok g))
   closing_clauses_left_out_break without m = other_clauses_break (λ e. omega (arith, node_if_good m)) m
 
-  pub closing_words_left_out_break : g.counts.words + length p.nodes * (p.bound + 3) ≡ length (cnf_words p) → ¬ (CheckedAs version ws (Good g))
+  pub closing_words_left_out_break : g.counts.words + length p.nodes * (p.bound + 3) ≡ length (cnf_words p) → ¬ (CheckedAs version ws (Ok g))
   closing_words_left_out_break without m =
       let left_out : 1 ≤ length p.nodes * (p.bound + 3) = one-le-mul (node_if_good m) (omega arith) in
       other_words_break (λ e. omega arith) m
@@ -116,22 +116,22 @@ module _ (version : ℕ) (ws : List ℕ) (g : ProblemRecord) where
   over_k = with_positions p.bound (tally p)
 
   -- Each node has a form.
-  form_if_good : CheckedAs version ws (Good g) → 1 ≤ node_count (tally p)
+  form_if_good : CheckedAs version ws (Ok g) → 1 ≤ node_count (tally p)
   form_if_good m = omega (arith, forms_are_all p.nodes, node_if_good m)
 
-  pub variables_over_k_break : g.counts.variables ≡ variables_of over_k → ¬ (CheckedAs version ws (Good g))
+  pub variables_over_k_break : g.counts.variables ≡ variables_of over_k → ¬ (CheckedAs version ws (Ok g))
   unfolding variable_count
   variables_over_k_break is m =
       let fewer = fewer_variables p.bound (tally p) in
       other_variables_break (λ e. omega (arith, fewer, variable_count_is p (node_if_good m))) m
 
-  pub clauses_over_k_break : g.counts.clauses ≡ sum (item_totals (λ n. 1) over_k) → ¬ (CheckedAs version ws (Good g))
+  pub clauses_over_k_break : g.counts.clauses ≡ sum (item_totals (λ n. 1) over_k) → ¬ (CheckedAs version ws (Ok g))
   unfolding clause_count
   clauses_over_k_break is m =
       let fewer = lighter (λ n. 1) p.bound (tally p) (omega arith) (omega arith) (form_if_good m) in
       other_clauses_break (λ e. omega (arith, fewer, clause_count_is p)) m
 
-  pub words_over_k_break : g.counts.words ≡ sum (item_totals suc over_k) → ¬ (CheckedAs version ws (Good g))
+  pub words_over_k_break : g.counts.words ≡ sum (item_totals suc over_k) → ¬ (CheckedAs version ws (Ok g))
   unfolding word_count
   words_over_k_break is m =
       let fewer = lighter suc p.bound (tally p) (omega arith) (omega arith) (form_if_good m) in
@@ -139,7 +139,7 @@ module _ (version : ℕ) (ws : List ℕ) (g : ProblemRecord) where
 
 -- The numbers of other words, say of a case in a table, where they differ.
 pub counts_of_another_break : (version version' : ℕ) (ws ws' : List ℕ) (g : ProblemRecord) → g.counts ≡ counts_of (problem version' ws')
-    → ¬ (counts_of (problem version' ws') ≡ counts_of (problem version ws)) → ¬ (CheckedAs version ws (Good g))
+    → ¬ (counts_of (problem version' ws') ≡ counts_of (problem version ws)) → ¬ (CheckedAs version ws (Ok g))
 counts_of_another_break version version' ws ws' g is h = other_counts_break version ws g (λ e. h (sym is ∙ e))
 
 -- ════════ Inputs, and what the promise gives ════════
@@ -204,25 +204,25 @@ limits_meets = record {
 -- ════════ Numbers that are made up ════════
 
 -- Of two records that meet the promise each has the numbers of the other.
-same_counts : {version : ℕ} {ws : List ℕ} {g right : ProblemRecord} → CheckedAs version ws (Good right) → CheckedAs version ws (Good g)
+same_counts : {version : ℕ} {ws : List ℕ} {g right : ProblemRecord} → CheckedAs version ws (Ok right) → CheckedAs version ws (Ok g)
     → g.counts ≡ right.counts
 same_counts r m = m.counted ∙ sym r.counted
 
 module _ (g : ProblemRecord) where
-  pub made_up_variable_count_breaks : ¬ (g.counts.variables ≡ 6) → Breaks T (Good g)
+  pub made_up_variable_count_breaks : ¬ (g.counts.variables ≡ 6) → Breaks T (Ok g)
   made_up_variable_count_breaks h m = h (ap (λ (c : Counts). c.variables) (same_counts t_meets m))
 
-  pub made_up_clause_count_breaks : ¬ (g.counts.clauses ≡ 12) → Breaks T (Good g)
+  pub made_up_clause_count_breaks : ¬ (g.counts.clauses ≡ 12) → Breaks T (Ok g)
   made_up_clause_count_breaks h m = h (ap (λ (c : Counts). c.clauses) (same_counts t_meets m))
 
-  pub made_up_word_count_breaks : ¬ (g.counts.words ≡ 37) → Breaks T (Good g)
+  pub made_up_word_count_breaks : ¬ (g.counts.words ≡ 37) → Breaks T (Ok g)
   made_up_word_count_breaks h m = h (ap (λ (c : Counts). c.words) (same_counts t_meets m))
 
-  pub cleared_counts_break : g.counts ≡ numbers_of 0 0 0 → Breaks T (Good g)
+  pub cleared_counts_break : g.counts ≡ numbers_of 0 0 0 → Breaks T (Ok g)
   cleared_counts_break is = made_up_word_count_breaks (λ e. omega (arith, ap (λ (c : Counts). c.words) is))
 
   -- T's numbers at bound 1, which are those of k positions.
-  pub always_counts_t_breaks : g.counts ≡ t_record.counts → Breaks t_longer (Good g)
+  pub always_counts_t_breaks : g.counts ≡ t_record.counts → Breaks t_longer (Ok g)
   always_counts_t_breaks is m =
       let same : t_record.counts ≡ numbers_of 10 23 75 = sym is ∙ same_counts t_longer_meets m in
       let words : ◌≡◌ {A = ℕ} 37 75 = ap (λ (c : Counts). c.words) same in
@@ -231,18 +231,18 @@ module _ (g : ProblemRecord) where
   -- ════════ Numbers in 16 bits ════════
 
   -- 437,012 words cut to 16 bits are 43,796, and 127,346 clauses 61,810; no numbers of 16 bits will do.
-  pub counted_in_16_bits_breaks : g.counts.words < 2 ^ 16 → Breaks at_limits (Good g)
+  pub counted_in_16_bits_breaks : g.counts.words < 2 ^ 16 → Breaks at_limits (Ok g)
   counted_in_16_bits_breaks h m =
       let words : g.counts.words ≡ 437_012 = ap (λ (c : Counts). c.words) (same_counts limits_meets m) in
       omega arith
 
-  pub cut_count_breaks : g.counts.words ≡ 437_012 % 2 ^ 16 → Breaks at_limits (Good g)
+  pub cut_count_breaks : g.counts.words ≡ 437_012 % 2 ^ 16 → Breaks at_limits (Ok g)
   cut_count_breaks is = counted_in_16_bits_breaks (omega arith)
 
-  pub clauses_counted_in_16_bits_break : g.counts.clauses < 2 ^ 16 → Breaks at_limits (Good g)
+  pub clauses_counted_in_16_bits_break : g.counts.clauses < 2 ^ 16 → Breaks at_limits (Ok g)
   clauses_counted_in_16_bits_break h m =
       let clauses : g.counts.clauses ≡ 127_346 = ap (λ (c : Counts). c.clauses) (same_counts limits_meets m) in
       omega arith
 
-  pub cut_clauses_break : g.counts.clauses ≡ 127_346 % 2 ^ 16 → Breaks at_limits (Good g)
+  pub cut_clauses_break : g.counts.clauses ≡ 127_346 % 2 ^ 16 → Breaks at_limits (Ok g)
   cut_clauses_break is = clauses_counted_in_16_bits_break (omega arith)

@@ -2,12 +2,11 @@
 pub mod Unique
 pub mod Outlines
 pub mod Answered
-pub mod KindNumbers
 pub mod FormsByOp
 pub mod CountingOneMore
-pub mod Counted
 pub mod Formed
 pub mod Lazy
 pub mod LazyOrder
 pub mod LazyConstraints
 pub mod LazyCounts
+pub mod GoodWords

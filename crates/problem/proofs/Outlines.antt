@@ -3,9 +3,11 @@ use mathlib.Core.Path.{◌≡◌, sym, ap}
 use mathlib.Core.List.{List}
 use Prim.Native.Nat.{ℕ, ◌+◌, ◌≤◌, ◌<◌}
 use native.Mathlib.Omega.{arith}
+use mathlib.Core.Bool.{Bool, true, false, cond}
+use lib.Dec.{eqb}
 use lib.ListN.{length}
 use Rattle.answers.specs.Limits.{inputs_limit, latches_limit, gates_limit, bound_limit}
-use Rattle.meaning.specs.Problem.{Problem, Latch, Gate, atom, latch, gate, constraint, node, word, latch_place, gate_place, constraint_place, read_node}
+use Rattle.meaning.specs.Problem.{Problem, Latch, Gate, atom, latch, gate, constraint, node, header_words, word, latch_place, gate_place, constraint_place, read_node}
 use Rattle.meaning.proofs.ShownBy.{inputs_by, bound_by, latches_by, gates_by, constraints_by, nodes_by, latch_by, gate_by, constraint_by, node_by, latch_past, gate_past, constraint_past, node_past}
 use Rattle.problem.specs.declared.Outline.{Outline}
 use Rattle.problem.specs.Promise.{outline_of, problem_in, ProperIn}
@@ -84,6 +86,19 @@ module _ (s : Outline) (ws : List ℕ) where
   pub nodes_past : (n : ℕ) → s.formula_nodes ≤ n → node (problem_in s ws) n ≡ atom 0
   unfolding problem_in
   nodes_past n l = node_past (outline_of s) ws n l
+
+-- What the readers of the parts go by.
+pub ruleset readers = (shows, next_read, reset_read, left_read, right_read, constraint_read, node_words_read, next_past, reset_past, left_past, right_past, constraints_past, nodes_past)
+
+-- No header is longer.
+pub header_few : (version : ℕ) → header_words version ≤ 6
+unfolding header_words
+header_few version = go (eqb version 1) (eqb version 2)
+  where
+    go : (b d : Bool) → cond b 5 (cond d 6 0) ≤ 6
+    go true d = omega arith
+    go false true = omega arith
+    go false false = omega arith
 
 -- The sizes of a proper problem are within the limits.
 module _ {s : Outline} {ws : List ℕ} (good : ProperIn s ws) where

@@ -13,10 +13,7 @@ use Rattle.problem.specs.declared.Outline.{Outline}
 use Rattle.problem.specs.declared.ProblemRecord.{ProblemRecord}
 use Rattle.problem.specs.declared.Refusal.{Refusal}
 use Rattle.problem.specs.declared.Refusal.TheVariants.{BadVersion, BadLength, OutsideLimits, BadReset, BadLiteral, BadNode}
-use Rattle.problem.specs.declared.Checked.{Checked}
-use Rattle.problem.specs.declared.Checked.TheVariants.{Good, Refused}
-use Rattle.problem.specs.declared.parts.PartAnswer.{PartAnswer}
-use Rattle.problem.specs.declared.parts.PartAnswer.TheVariants as parts
+use Rattle.std.specs.Prelude.{Result, Ok, Err, ⊤}
 use Rattle.problem.specs.declared.Left.{Left}
 use Rattle.problem.specs.declared.Left.TheVariants.{Constant, Child}
 use Rattle.problem.specs.declared.Node.{Node}
@@ -56,25 +53,25 @@ refusal_not_yes (BadNode i) e = omega arith
 -- ════════ The parts of a check ════════
 
 -- Two answers that hand on, or refuse, whatever comes after, are one.
-same_part : (r r' : PartAnswer) → ((after : Answer) → answer_then r after ≡ answer_then r' after) → r ≡ r'
-same_part parts.Passed parts.Passed e = refl
-same_part parts.Passed (parts.Refused f) e = absurd (refusal_not_yes f (number_of (sym (e (granted 0)))))
-same_part (parts.Refused f) parts.Passed e = absurd (refusal_not_yes f (number_of (e (granted 0))))
-same_part (parts.Refused f) (parts.Refused f') e = ap parts.Refused (refusal_unique f f' (e (granted 0)))
+same_part : (r r' : Result ⊤ Refusal) → ((after : Answer) → answer_then r after ≡ answer_then r' after) → r ≡ r'
+same_part (Ok x) (Ok x') e = refl
+same_part (Ok x) (Err f) e = absurd (refusal_not_yes f (number_of (sym (e (granted 0)))))
+same_part (Err f) (Ok x) e = absurd (refusal_not_yes f (number_of (e (granted 0))))
+same_part (Err f) (Err f') e = ap Err (refusal_unique f f' (e (granted 0)))
 
-pub answers_unique : {ps : List (List Check)} (r r' : PartAnswer) → Answers ps r → Answers ps r' → r ≡ r'
+pub answers_unique : {ps : List (List Check)} (r r' : Result ⊤ Refusal) → Answers ps r → Answers ps r' → r ≡ r'
 answers_unique r r' a a' = same_part r r' (λ after. a.answered after ∙ sym (a'.answered after))
 
 -- Every answer is that to some parts, so two parts joined have one answer.
-abbrev parts_of : PartAnswer → List (List Check)
-parts_of parts.Passed = []
-parts_of (parts.Refused f) = (check false (refusal_answer f) ∷ []) ∷ []
+abbrev parts_of : Result ⊤ Refusal → List (List Check)
+parts_of (Ok x) = []
+parts_of (Err f) = (check false (refusal_answer f) ∷ []) ∷ []
 
-answers_of : (r : PartAnswer) → Answers (parts_of r) r
-answers_of parts.Passed = record { answered = λ after. refl }
-answers_of (parts.Refused f) = record { answered = λ after. refl }
+answers_of : (r : Result ⊤ Refusal) → Answers (parts_of r) r
+answers_of (Ok x) = record { answered = λ after. refl }
+answers_of (Err f) = record { answered = λ after. refl }
 
-pub joined_unique : (first second r r' : PartAnswer) → Joined first second r → Joined first second r' → r ≡ r'
+pub joined_unique : (first second r r' : Result ⊤ Refusal) → Joined first second r → Joined first second r' → r ≡ r'
 joined_unique first second r r' j j' =
     answers_unique {ps = parts_of first ++ parts_of second} r r'
     (j.answers (parts_of first) (parts_of second) (answers_of first) (answers_of second))
@@ -106,15 +103,15 @@ same_record : (g g' : ProblemRecord) → g.outline ≡ g'.outline → g.counts �
 same_record g g' o c = ap (λ s. record { outline = s; counts = g.counts }) o ∙ ap (λ n. record { outline = g'.outline; counts = n }) c
 
 -- Two outcomes with one answer: both the record of the words, or one refusal.
-same_outcome : (version : ℕ) (ws : List ℕ) (r r' : Checked) → CheckedAs version ws r → CheckedAs version ws r' → answer_of r ≡ answer_of r' → r ≡ r'
-same_outcome version ws (Good g) (Good g') a a' e =
+same_outcome : (version : ℕ) (ws : List ℕ) (r r' : Result ProblemRecord Refusal) → CheckedAs version ws r → CheckedAs version ws r' → answer_of r ≡ answer_of r' → r ≡ r'
+same_outcome version ws (Ok g) (Ok g') a a' e =
     let outlines : g.outline ≡ g'.outline = outline_unique g.outline g'.outline (a.outlined.outline_is ∙ sym a'.outlined.outline_is) in
-    ap Good (same_record g g' outlines (a.counted ∙ sym a'.counted))
-same_outcome version ws (Good g) (Refused f) a a' e = absurd (refusal_not_yes f (number_of (sym e)))
-same_outcome version ws (Refused f) (Good g) a a' e = absurd (refusal_not_yes f (number_of e))
-same_outcome version ws (Refused f) (Refused f') a a' e = ap Refused (refusal_unique f f' e)
+    ap Ok (same_record g g' outlines (a.counted ∙ sym a'.counted))
+same_outcome version ws (Ok g) (Err f) a a' e = absurd (refusal_not_yes f (number_of (sym e)))
+same_outcome version ws (Err f) (Ok g) a a' e = absurd (refusal_not_yes f (number_of e))
+same_outcome version ws (Err f) (Err f') a a' e = ap Err (refusal_unique f f' e)
 
-pub checked_unique : (version : ℕ) (ws : List ℕ) (r r' : Checked) → CheckedAs version ws r → CheckedAs version ws r' → r ≡ r'
+pub checked_unique : (version : ℕ) (ws : List ℕ) (r r' : Result ProblemRecord Refusal) → CheckedAs version ws r → CheckedAs version ws r' → r ≡ r'
 checked_unique version ws r r' a a' =
     same_outcome version ws r r' a a' (a.answered ∙ sym a'.answered)
 

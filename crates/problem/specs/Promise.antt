@@ -1,5 +1,5 @@
 -- The enums of the crate as the answers and nodes of document 01, and the promises of its public functions. Assumes nothing.
-use Rattle.std.specs.Prelude.{List, ◌≡◌, ℕ}
+use Rattle.std.specs.Prelude.{List, ◌≡◌, ℕ, Result, Ok, Err}
 use Rattle.answers.specs.Answers.{Answer, granted, bad_length, outside_limits, bad_reset, bad_literal, bad_node, bad_job}
 use Rattle.meaning.specs.Problem as problems
 use Rattle.meaning.specs.Problem.{Problem, W, outline, problem_by, problem}
@@ -10,8 +10,7 @@ use Rattle.problem.specs.declared.Outline.{Outline}
 use Rattle.problem.specs.declared.ProblemRecord.{ProblemRecord}
 use Rattle.problem.specs.declared.Refusal.{Refusal}
 use Rattle.problem.specs.declared.Refusal.TheVariants.{BadVersion, BadLength, OutsideLimits, BadReset, BadLiteral, BadNode}
-use Rattle.problem.specs.declared.Checked.{Checked}
-use Rattle.problem.specs.declared.Checked.TheVariants.{Good, Refused}
+use Rattle.problem.specs.declared.Gate.{Gate}
 use Rattle.problem.specs.declared.Left.{Left}
 use Rattle.problem.specs.declared.Left.TheVariants.{Constant, Child}
 use Rattle.problem.specs.declared.Node.{Node}
@@ -26,9 +25,9 @@ refusal_answer (BadReset i) = bad_reset i
 refusal_answer (BadLiteral i) = bad_literal i
 refusal_answer (BadNode i) = bad_node i
 
-abbrev pub answer_of : Checked → Answer
-answer_of (Good g) = granted 0
-answer_of (Refused f) = refusal_answer f
+abbrev pub answer_of : Result ProblemRecord Refusal → Answer
+answer_of (Ok g) = granted 0
+answer_of (Err f) = refusal_answer f
 
 -- ════════ The outline ════════
 
@@ -70,22 +69,26 @@ pub record Outlined (version : ℕ) (ws : List ℕ) (s : Outline) : Type 0 where
   pub outline_is : outline_of s ≡ outline version ws
   pub problem_is : problem_in s ws ≡ problem version ws
 
-abbrev pub OutlinedBy : ℕ → List ℕ → Checked → Type 0
-OutlinedBy version ws (Good g) = Outlined version ws g.outline
-OutlinedBy version ws (Refused f) = Unit
+abbrev pub OutlinedBy : ℕ → List ℕ → Result ProblemRecord Refusal → Type 0
+OutlinedBy version ws (Ok g) = Outlined version ws g.outline
+OutlinedBy version ws (Err f) = Unit
 
 -- The record's numbers of variables, clauses and words are those of the CNF.
-abbrev pub CountedBy : ℕ → List ℕ → Checked → Type 0
-CountedBy version ws (Good g) = g.counts ≡ counts_of (problem version ws)
-CountedBy version ws (Refused f) = Unit
+abbrev pub CountedBy : ℕ → List ℕ → Result ProblemRecord Refusal → Type 0
+CountedBy version ws (Ok g) = g.counts ≡ counts_of (problem version ws)
+CountedBy version ws (Err f) = Unit
 
 -- The check: its answer, and where it is yes the outline and the numbers of the CNF.
-pub record CheckedAs (version : ℕ) (ws : List ℕ) (r : Checked) : Type 0 where
+pub record CheckedAs (version : ℕ) (ws : List ℕ) (r : Result ProblemRecord Refusal) : Type 0 where
   pub answered : answer_of r ≡ check_problem version ws
   pub outlined : OutlinedBy version ws r
   pub counted : CountedBy version ws r
 
--- ════════ The nodes ════════
+-- ════════ The gates and the nodes ════════
+
+-- A gate of the crate as document 01's.
+abbrev pub gate_read : Gate → problems.Gate
+gate_read g = record { left = g.left; right = g.right }
 
 -- A node of the crate as document 01's.
 abbrev pub left_of : Left → problems.Left

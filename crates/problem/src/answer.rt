@@ -1,51 +1,32 @@
-// Document 01's number and place of each answer to a problem.
+// Document 01's row of each refusal of a problem.
 ghost use Rattle.std.specs.Prelude.{◌≡◌};
-ghost use Rattle.problem.specs.Promise.{refusal_answer, answer_of};
+ghost use Rattle.answers.specs.Table.{row_of};
+ghost use Rattle.problem.specs.Promise.{answer_of, refusal_answer};
 
-use crate::{Checked, Refusal};
+use crate::{ProblemRecord, Refusal};
+use answers::answer::Answer;
 
-const YES: u32 = 0;
+impl From<Refusal> for Answer {
+    ghost from_gives = { λ f a. row_of a ≡ refusal_answer f };
 
-pub fn refusal_number(f: Refusal) -> u32
-    ensures { result ≡ (refusal_answer f).number }
-{
-    match f {
-        Refusal::BadVersion => 15,
-        Refusal::BadLength(_) => 1,
-        Refusal::OutsideLimits(_) => 2,
-        Refusal::BadReset(_) => 3,
-        Refusal::BadLiteral(_) => 4,
-        Refusal::BadNode(_) => 5,
+    fn from(f: Refusal) -> Answer {
+        match f {
+            Refusal::BadVersion => Answer::new(15, 0),
+            Refusal::BadLength(n) => Answer::new(1, n),
+            Refusal::OutsideLimits(i) => Answer::new(2, i),
+            Refusal::BadReset(i) => Answer::new(3, i),
+            Refusal::BadLiteral(i) => Answer::new(4, i),
+            Refusal::BadNode(i) => Answer::new(5, i),
+        }
     }
 }
 
-pub fn refusal_place(f: Refusal) -> usize
-    ensures { result ≡ (refusal_answer f).place }
-{
-    match f {
-        Refusal::BadVersion => 0,
-        Refusal::BadLength(n) => n,
-        Refusal::OutsideLimits(i) => i,
-        Refusal::BadReset(i) => i,
-        Refusal::BadLiteral(i) => i,
-        Refusal::BadNode(i) => i,
-    }
-}
-
-pub fn number(r: Checked) -> u32
-    ensures { result ≡ (answer_of r).number }
+// The row of what the check answers.
+pub fn answer(r: Result<ProblemRecord, Refusal>) -> Answer
+    ensures { row_of result ≡ answer_of r }
 {
     match r {
-        Checked::Good(_) => YES,
-        Checked::Refused(f) => refusal_number(f),
-    }
-}
-
-pub fn place(r: Checked) -> usize
-    ensures { result ≡ (answer_of r).place }
-{
-    match r {
-        Checked::Good(_) => 0,
-        Checked::Refused(f) => refusal_place(f),
+        Ok(_) => Answer::new(0, 0),
+        Err(f) => Answer::from(f),
     }
 }

@@ -1,165 +1,96 @@
 // The check of a problem, in the documents' fixed order: parts one after another, each of which passes or refuses.
 ghost use Rattle.std.specs.Prelude.{◌≡◌, [], ◌∷◌};
 ghost use Rattle.meaning.specs.Check.{header_checks, constraints_check, limit_checks, length_checks};
+ghost use Rattle.meaning.specs.Calls.{outline_parts_with};
 ghost use Rattle.problem.specs.Promise.{CheckedAs, outline_of};
-ghost use Rattle.problem.specs.CheckParts.{Answers};
-ghost use Rattle.problem.specs.Kinds.{checks_of};
-ghost use Rattle.problem.specs.Walks.{AllWalked, PartsWalked};
+ghost use Rattle.problem.specs.CheckParts.{Answers, AnswersEach};
 
-use crate::count::{Seen, numbers, with_one};
+use crate::count::numbers;
 use crate::header::{
     BOUND, CONSTRAINTS, GATES, INPUTS, LATCHES, NODES, header_word, header_words, outline,
 };
-use crate::kinds::{Kind, number_of};
-use crate::parts::{CHILDREN, PartAnswer, constraint, gate, latch, limit, node, then};
+use crate::parts::{CHILDREN, constraint, gate, latch, limit, node};
 use crate::read::node_place;
-use crate::{Checked, Outline, ProblemRecord, Refusal};
+use crate::shown::Shown;
+use crate::{Outline, ProblemRecord, Refusal};
 use answers::limits::{
     BOUND_LIMIT, CONSTRAINTS_LIMIT, GATES_LIMIT, INPUTS_LIMIT, LATCHES_LIMIT, NODES_LIMIT,
 };
 
-// What a walk answers, and what was counted on the way.
-#[derive(Clone, Copy)]
-pub(crate) struct Walked {
-    answer: PartAnswer,
-    seen: Seen,
-}
-
 // The version is known, and the words of its header are there.
-fn header(version: u32, words: &[u32]) -> PartAnswer
+fn header(version: u32, words: &[u32]) -> Result<(), Refusal>
     ensures { Answers (header_checks version words.now ∷ []) result }
 {
-    let size = header_words(version);
-    if size == 0 {
-        return PartAnswer::Refused(Refusal::BadVersion);
+    let size = header_words(version).ok_or(Refusal::BadVersion)?;
+    if words.len() < size as usize {
+        return Err(Refusal::BadLength(words.len()));
     }
-    if words.len() < (size as usize) {
-        return PartAnswer::Refused(Refusal::BadLength(words.len()));
-    }
-    PartAnswer::Passed
+    Ok(())
 }
 
 // D is within its limit.
-fn constraints_limit(version: u32, words: &[u32]) -> PartAnswer
+#[tactic(auto, using(crate::proofs::Answered::one_by_one), unfolding(answers::specs::Limits::constraints_limit))]
+fn constraints_limit(version: u32, words: &[u32]) -> Result<(), Refusal>
     ensures { Answers ((constraints_check version words.now ∷ []) ∷ []) result }
 {
     if CONSTRAINTS_LIMIT < header_word(version, words, CONSTRAINTS) {
-        return PartAnswer::Refused(Refusal::OutsideLimits(CONSTRAINTS));
+        return Err(Refusal::OutsideLimits(CONSTRAINTS));
     }
-    PartAnswer::Passed
+    Ok(())
 }
 
-fn limits(version: u32, words: &[u32]) -> PartAnswer
+#[tactic(auto, using(crate::proofs::Answered::one_by_one), unfolding(answers::specs::Limits::inputs_limit, answers::specs::Limits::latches_limit, answers::specs::Limits::gates_limit, answers::specs::Limits::nodes_limit, answers::specs::Limits::bound_limit))]
+fn limits(version: u32, words: &[u32]) -> Result<(), Refusal>
     ensures { Answers (limit_checks version words.now ∷ []) result }
 {
-    let to_latches = then(
-        limit(words, INPUTS, 0, INPUTS_LIMIT),
-        limit(words, LATCHES, 0, LATCHES_LIMIT),
-    );
-    let to_gates = then(to_latches, limit(words, GATES, 0, GATES_LIMIT));
-    let to_nodes = then(to_gates, limit(words, NODES, 1, NODES_LIMIT));
-    let to_bound = then(to_nodes, limit(words, BOUND, 0, BOUND_LIMIT));
-    then(to_bound, constraints_limit(version, words))
+    limit(words, INPUTS, 0, INPUTS_LIMIT)?;
+    limit(words, LATCHES, 0, LATCHES_LIMIT)?;
+    limit(words, GATES, 0, GATES_LIMIT)?;
+    limit(words, NODES, 1, NODES_LIMIT)?;
+    limit(words, BOUND, 0, BOUND_LIMIT)?;
+    constraints_limit(version, words)
 }
 
-fn length(words: &[u32], s: Outline) -> PartAnswer
+fn length(words: &[u32], s: Outline) -> Result<(), Refusal>
     ensures { Answers (length_checks (outline_of s) words.now ∷ []) result }
 {
     if words.len() != node_place(s, s.written_nodes) {
-        return PartAnswer::Refused(Refusal::BadLength(words.len()));
+        return Err(Refusal::BadLength(words.len()));
     }
-    PartAnswer::Passed
+    Ok(())
 }
 
-// One of a kind.
-fn one(words: &[u32], s: Outline, kind: Kind, i: u32, children: &[u32]) -> PartAnswer
-    ensures { Answers (checks_of children.now kind (outline_of s) words.now i ∷ []) result }
+// A part for each number from 0 on, in their order.
+fn all<F: Fn(u32) -> Result<(), Refusal>>(n: u32, part: F) -> Result<(), Refusal>
+    requires { F.IsAlwaysCallable part }
+    ensures { AnswersEach (F.post part) n result }
 {
-    match kind {
-        Kind::Latch => latch(words, s, i),
-        Kind::Gate => gate(words, s, i),
-        Kind::Constraint => constraint(words, s, i),
-        Kind::Node => node(words, s, i, children),
+    for i in 0..n {
+        part(i)?;
     }
+    Ok(())
 }
 
-// All of a kind, in their order; one walk checks and counts.
-fn all(words: &[u32], s: Outline, kind: Kind, children: &[u32]) -> Walked
-    requires { s.formula_nodes ≡ s.written_nodes }
-    ensures { AllWalked children.now kind s words.now result }
+// The parts that the outline tells of.
+fn parts(words: &[u32], s: Outline, children: &[u32]) -> Result<(), Refusal>
+    ensures { Answers (outline_parts_with children.now (outline_of s) words.now) result }
 {
-    let n = number_of(s, kind);
-    let mut seen = Seen {
-        fixed: 0,
-        equals: 0,
-        ors: 0,
-        untils: 0,
-    };
-    let mut i: u32 = 0;
-    while i < n {
-        let r = one(words, s, kind, i, children);
-        let PartAnswer::Passed = r else {
-            return Walked { answer: r, seen };
-        };
-        seen = with_one(words, s, kind, i, seen);
-        i += 1;
-    }
-    Walked {
-        answer: PartAnswer::Passed,
-        seen,
-    }
-}
-
-// The parts that the outline tells of; resets are counted with the latches, forms with the nodes.
-fn parts(words: &[u32], s: Outline, children: &[u32]) -> Walked
-    requires { s.formula_nodes ≡ s.written_nodes }
-    ensures { PartsWalked children.now s words.now result }
-{
-    let Walked {
-        answer: by_latches,
-        seen: latches,
-    } = all(words, s, Kind::Latch, children);
-    let Walked {
-        answer: by_gates,
-        ..
-    } = all(words, s, Kind::Gate, children);
-    let Walked {
-        answer: by_constraints,
-        ..
-    } = all(words, s, Kind::Constraint, children);
-    let Walked {
-        answer: by_nodes,
-        seen: nodes,
-    } = all(words, s, Kind::Node, children);
-    let to_latches = then(length(words, s), by_latches);
-    let to_gates = then(to_latches, by_gates);
-    let to_constraints = then(to_gates, by_constraints);
-    Walked {
-        answer: then(to_constraints, by_nodes),
-        seen: Seen {
-            fixed: latches.fixed,
-            equals: nodes.equals,
-            ors: nodes.ors,
-            untils: nodes.untils,
-        },
-    }
+    length(words, s)?;
+    all(s.latches, |i| latch(words, s, i))?;
+    all(s.gates, |j| gate(words, s, j))?;
+    all(s.constraints, |c| constraint(words, s, c))?;
+    all(s.written_nodes, |n| node(words, s, n, children))
 }
 
 // The whole check: 15, then 1 to 5, or the record of a good problem.
-pub fn check(version: u32, words: &[u32]) -> Checked
+#[tactic(auto, using(crate::proofs::Formed::whole))]
+pub fn check(version: u32, words: &[u32]) -> Result<ProblemRecord, Refusal>
     ensures { CheckedAs version words.now result }
 {
-    let opening = then(header(version, words), limits(version, words));
-    if let PartAnswer::Refused(f) = opening {
-        return Checked::Refused(f);
-    }
-    let s = outline(version, words);
-    let Walked { answer, seen } = parts(words, s, &CHILDREN);
-    match answer {
-        PartAnswer::Passed => Checked::Good(ProblemRecord {
-            outline: s,
-            counts: numbers(s, seen),
-        }),
-        PartAnswer::Refused(f) => Checked::Refused(f),
-    }
+    header(version, words)?;
+    limits(version, words)?;
+    let outline = outline(version, words);
+    parts(words, outline, &CHILDREN)?;
+    let counts = numbers(&Shown::new(words, outline), outline.width);
+    Ok(ProblemRecord { outline, counts })
 }

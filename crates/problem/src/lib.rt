@@ -4,10 +4,11 @@
 pub mod answer;
 pub mod check;
 mod count;
+pub mod good;
 pub mod header;
-mod kinds;
 pub mod parts;
 pub mod read;
+pub mod shown;
 
 use counts::Counts;
 
@@ -29,7 +30,7 @@ pub struct Outline {
 }
 
 // Document 01's refusals of a problem; `answer` gives the number and the place of each.
-#[derive(Clone, Copy)]
+#[derive(Clone, Copy, Debug, PartialEq, Eq)]
 pub enum Refusal {
     BadVersion,
     BadLength(usize),
@@ -39,29 +40,29 @@ pub enum Refusal {
     BadNode(usize),
 }
 
-// What the check answers of a good problem: its outline, and the numbers of its CNF.
+// What the check finds of a good problem: its outline, and the numbers of its CNF.
 #[derive(Clone, Copy)]
 pub struct ProblemRecord {
     pub outline: Outline,
     pub counts: Counts,
 }
 
-// The outcome of the check: the record of a good problem, or the refusal.
-#[derive(Clone, Copy)]
-pub enum Checked {
-    Good(ProblemRecord),
-    Refused(Refusal),
+// The two literals of a gate.
+#[derive(Clone, Copy, Debug, PartialEq, Eq)]
+pub struct Gate {
+    pub left: u32,
+    pub right: u32,
 }
 
 // What stands on the left of U and R: a node, or a constant where the op is F or G.
-#[derive(Clone, Copy)]
+#[derive(Clone, Copy, Debug, PartialEq, Eq)]
 pub enum Left {
     Constant(bool),
     Child(u32),
 }
 
 // A node by its shape. F is U and G is R with a constant on the left.
-#[derive(Clone, Copy)]
+#[derive(Clone, Copy, Debug, PartialEq, Eq)]
 pub enum Node {
     Atom(u32),
     Both(u32, u32),

@@ -1,9 +1,10 @@
 // The parts of a check, one after another, each of which passes or refuses: what is asked of a size, a literal, a latch, a gate, a constraint, a node.
-// They hold for every outline and every number, so that words of any kind are checked by them.
+// They hold for every outline and every number, so that words of any kind are checked by them. What they promise names the words, which `Shown`
+// hides behind the problem: so each takes the words and the outline.
 ghost use Rattle.std.specs.Prelude.{◌≡◌, [], ◌∷◌};
 ghost use Rattle.meaning.specs.Check.{largest_literal, gate_limit, first_right, second_right, limit_check, literal_check, reset_check, latch_checks, gate_checks, constraint_checks, node_checks};
 ghost use Rattle.problem.specs.Promise.{outline_of};
-ghost use Rattle.problem.specs.CheckParts.{Answers, Joined};
+ghost use Rattle.problem.specs.CheckParts.{Answers};
 
 use crate::read::{constraint_place, gate_place, latch_place, node_place, word_at};
 use crate::{Outline, Refusal};
@@ -16,96 +17,69 @@ const OPS: usize = 8;
 
 pub(crate) const CHILDREN: [u32; OPS] = [0, 2, 2, 1, 1, 1, 2, 2];
 
-// What a part of the check answers.
-#[derive(Clone, Copy)]
-pub enum PartAnswer {
-    Passed,
-    Refused(Refusal),
-}
-
-// Two parts one after the other: the first that refuses gives the answer.
-pub fn then(first: PartAnswer, second: PartAnswer) -> PartAnswer
-    ensures { Joined first second result }
-{
-    match first {
-        PartAnswer::Passed => second,
-        PartAnswer::Refused(f) => PartAnswer::Refused(f),
-    }
-}
-
 // The header's word at a place is within its limits.
-pub fn limit(words: &[u32], at: usize, least: u32, most: u32) -> PartAnswer
+pub fn limit(words: &[u32], at: usize, least: u32, most: u32) -> Result<(), Refusal>
     ensures { Answers ((limit_check words.now at least most ∷ []) ∷ []) result }
 {
-    let size = word_at(words, at);
-    if size < least {
-        return PartAnswer::Refused(Refusal::OutsideLimits(at));
+    if !(least..=most).contains(&word_at(words, at)) {
+        return Err(Refusal::OutsideLimits(at));
     }
-    if most < size {
-        return PartAnswer::Refused(Refusal::OutsideLimits(at));
-    }
-    PartAnswer::Passed
+    Ok(())
 }
 
 // A literal's word is at most so large.
-pub fn literal(words: &[u32], at: usize, most: u64) -> PartAnswer
+pub fn literal(words: &[u32], at: usize, most: u64) -> Result<(), Refusal>
     ensures { Answers ((literal_check words.now at most ∷ []) ∷ []) result }
 {
-    if most < (word_at(words, at) as u64) {
-        return PartAnswer::Refused(Refusal::BadLiteral(at));
+    if most < u64::from(word_at(words, at)) {
+        return Err(Refusal::BadLiteral(at));
     }
-    PartAnswer::Passed
+    Ok(())
 }
 
 // A reset's word.
-fn reset(words: &[u32], at: usize) -> PartAnswer
+fn reset(words: &[u32], at: usize) -> Result<(), Refusal>
     ensures { Answers ((reset_check words.now at ∷ []) ∷ []) result }
 {
     if LARGEST_RESET < word_at(words, at) {
-        return PartAnswer::Refused(Refusal::BadReset(at));
+        return Err(Refusal::BadReset(at));
     }
-    PartAnswer::Passed
+    Ok(())
 }
 
 // The literals of W variables are at most 2W + 1.
 pub fn largest_literal(s: Outline) -> u64
     ensures { result ≡ largest_literal (outline_of s) }
 {
-    2 * (s.width as u64) + 1
+    2 * u64::from(s.width) + 1
 }
 
 // Twice a gate's own variable.
 fn gate_limit(s: Outline, j: u32) -> u64
     ensures { result ≡ gate_limit (outline_of s) j }
 {
-    2 * (s.inputs as u64 + s.latches as u64 + j as u64 + 1)
+    2 * (u64::from(s.inputs) + u64::from(s.latches) + u64::from(j) + 1)
 }
 
-pub fn latch(words: &[u32], s: Outline, i: u32) -> PartAnswer
+pub fn latch(words: &[u32], s: Outline, i: u32) -> Result<(), Refusal>
     ensures { Answers (latch_checks (outline_of s) words.now i ∷ []) result }
 {
     let at = latch_place(s, i);
-    let next = literal(words, at, largest_literal(s));
-    let PartAnswer::Passed = next else {
-        return next;
-    };
+    literal(words, at, largest_literal(s))?;
     reset(words, at + 1)
 }
 
 // "each below twice its own variable"
-pub fn gate(words: &[u32], s: Outline, j: u32) -> PartAnswer
+pub fn gate(words: &[u32], s: Outline, j: u32) -> Result<(), Refusal>
     ensures { Answers (gate_checks (outline_of s) words.now j ∷ []) result }
 {
     let at = gate_place(s, j);
     let most = gate_limit(s, j) - 1;
-    let left = literal(words, at, most);
-    let PartAnswer::Passed = left else {
-        return left;
-    };
+    literal(words, at, most)?;
     literal(words, at + 1, most)
 }
 
-pub fn constraint(words: &[u32], s: Outline, c: u32) -> PartAnswer
+pub fn constraint(words: &[u32], s: Outline, c: u32) -> Result<(), Refusal>
     ensures { Answers (constraint_checks (outline_of s) words.now c ∷ []) result }
 {
     literal(words, constraint_place(s, c), largest_literal(s))
@@ -116,7 +90,7 @@ fn first_word(s: Outline, n: u32, children: u32, a: u32) -> bool
     ensures { result ≡ first_right (outline_of s) n children a }
 {
     if children == 0 {
-        (a as u64) <= largest_literal(s)
+        u64::from(a) <= largest_literal(s)
     } else {
         a < n
     }
@@ -130,20 +104,18 @@ fn second_word(n: u32, children: u32, b: u32) -> bool
 }
 
 // By the table of how many children each op has.
-pub fn node(words: &[u32], s: Outline, n: u32, children: &[u32]) -> PartAnswer
+pub fn node(words: &[u32], s: Outline, n: u32, children: &[u32]) -> Result<(), Refusal>
     ensures { Answers (node_checks children.now (outline_of s) words.now n ∷ []) result }
 {
     let at = node_place(s, n);
-    let op = word_at(words, at) as usize;
-    if children.len() <= op {
-        return PartAnswer::Refused(Refusal::BadNode(at));
-    }
-    let number = children[op];
+    let Some(&number) = children.get(word_at(words, at) as usize) else {
+        return Err(Refusal::BadNode(at));
+    };
     if !first_word(s, n, number, word_at(words, at + 1)) {
-        return PartAnswer::Refused(Refusal::BadNode(at + 1));
+        return Err(Refusal::BadNode(at + 1));
     }
     if !second_word(n, number, word_at(words, at + 2)) {
-        return PartAnswer::Refused(Refusal::BadNode(at + 2));
+        return Err(Refusal::BadNode(at + 2));
     }
-    PartAnswer::Passed
+    Ok(())
 }

@@ -1,21 +1,21 @@
 -- The hints of a step, taken in order: what is set true so far, and what the hints that are left come to. Assumes nothing.
-use mathlib.Core.Path.{◌≡◌, refl, sym, ◌∙◌, ap}
+use mathlib.Core.Path.{◌≡◌, sym, ◌∙◌, ap}
 use mathlib.Core.Bool.{Bool, true, false, not}
 use mathlib.Core.List.{List, [], ◌∷◌, map}
-use Prim.Native.Nat.{ℕ, suc, ◌+◌, ◌<◌, ◌≤◌}
+use Prim.Native.Nat.{ℕ, suc, ◌+◌, ◌<◌}
 use native.Mathlib.Numerals.{add-one}
 use native.Mathlib.Omega.{arith}
 use borrow.Author.Tests.{not-true, not-false, eq-eqb, ne_eqb}
 use lib.IntN.{ℤ, pos}
 use lib.Dec.{eqb}
-use lib.ListN.{length, drop, length-drop, length-map, drop_of_length-le}
+use lib.ListN.{length, drop, length-drop, length-map}
 use lib.Seq.{drop-cons}
 use Rattle.answers.proofs.Tests.{no_elements}
 use Rattle.clauses.proofs.StepRule.{by_no_hints, by_hints}
 use Rattle.answers.specs.Lists.{empty}
 use Rattle.clauses.specs.Clauses.{negated, variable_of, among}
 use Rattle.clauses.specs.Refutations.{Lookup, Outcome, conflict, unit, neither, both_signs, hint_outcome, hints_conflict, step, step_accepted}
-use Rattle.refutation.specs.Work.{Older, Values, Marked}
+use Rattle.refutation.specs.Work.{Values, Marked}
 use Rattle.refutation.proofs.ClauseLiterals.{literal_at}
 use Rattle.refutation.proofs.KnownClauses.{Unset}
 
@@ -24,8 +24,6 @@ marked_on m n = record { not_later = n.not_later; past = n.past ∙ m.past }
 
 -- How the area stands where the first i hints of a step are taken.
 pub record HintsTaken (variables stamp : ℕ) (named : Lookup) (clause hints : List ℤ) (before area : List ℕ) (i : ℕ) : Type 0 where
-  pub inside : i ≤ length hints
-  pub long : length area ≡ length before
   pub marked : Marked variables stamp before area
   pub trues : List ℤ
   pub values : Values variables stamp trues area
@@ -38,14 +36,12 @@ both_signs_judged named clause hints e =
     ∙ no_elements (map variable_of hints)
     ∙ sym (by_no_hints named (step clause (map variable_of hints)) (not-false (both_signs clause) (sym e)))
 
-pub none_taken : {variables stamp : ℕ} (named : Lookup) (clause hints : List ℤ) {area : List ℕ} → true ≡ not (both_signs clause)
-    → Older variables (suc stamp) area → Values variables stamp (map negated clause) area
-    → HintsTaken variables stamp named clause hints area area 0
-none_taken named clause hints e old vs =
+pub none_taken : {variables stamp : ℕ} (named : Lookup) (clause hints : List ℤ) {before area : List ℕ} → true ≡ not (both_signs clause)
+    → Marked variables stamp before area → Values variables stamp (map negated clause) area
+    → HintsTaken variables stamp named clause hints before area 0
+none_taken named clause hints e m vs =
     record {
-      inside = omega arith;
-      long = refl;
-      marked = record { not_later = old; past = refl };
+      marked = m;
       trues = map negated clause;
       values = vs;
       left = by_hints named (step clause (map variable_of hints)) (not-true (both_signs clause) (sym e));
@@ -56,9 +52,6 @@ none_left [] n m e = eq-eqb n m (omega arith)
 none_left (h ∷ hs) n m e = ne_eqb n m (λ f. omega arith)
 
 module _ {variables stamp : ℕ} {named : Lookup} {clause hints : List ℤ} {before area : List ℕ} {i : ℕ} (t : HintsTaken variables stamp named clause hints before area i) where
-  pub all_taken : length hints ≤ i → false ≡ step_accepted named (step clause (map variable_of hints))
-  all_taken l = sym (t.left ∙ rw (drop_of_length-le hints l))
-
   module _ (l : i < length hints) where
     abbrev h : ℕ
     h = variable_of (literal_at hints i)
@@ -87,19 +80,15 @@ module _ {variables stamp : ℕ} {named : Lookup} {clause hints : List ℤ} {bef
     pub at_neither : neither ≡ hint_outcome named t.trues h → false ≡ step_accepted named (step clause (map variable_of hints))
     at_neither e = sym (by_outcome e)
 
-    -- The literal and the stamp are as the code has them.
-    pub at_unit : {stamp' : ℕ} {u u' : ℤ} {after : List ℕ} → stamp' ≡ stamp → u' ≡ u
-        → unit u ≡ hint_outcome named t.trues h → Unset variables t.trues u → length after ≡ length area
-        → Marked variables stamp' area after
-        → ((trues : List ℤ) → Values variables stamp' trues area → among u' trues ≡ false → among (negated u') trues ≡ false → Values variables stamp' (u' ∷ trues) after)
+    pub at_unit : {u u' : ℤ} {after : List ℕ} → u' ≡ u → unit u ≡ hint_outcome named t.trues h → Unset variables t.trues u
+        → Marked variables stamp area after
+        → ((trues : List ℤ) → Values variables stamp trues area → among u' trues ≡ false → among (negated u') trues ≡ false → Values variables stamp (u' ∷ trues) after)
         → HintsTaken variables stamp named clause hints before after (i + 1)
-    at_unit {u = u} is w e n long m set =
+    at_unit {u} w e n m set =
         rw (add-one i)
         (record {
-          inside = l;
-          long = long ∙ t.long;
-          marked = marked_on t.marked (rw is at m);
+          marked = marked_on t.marked m;
           trues = u ∷ t.trues;
-          values = rw (is, w) at (set t.trues (rw is t.values) (rw w n.not_true) (rw w n.not_false));
+          values = rw w at (set t.trues t.values (rw w n.not_true) (rw w n.not_false));
           left = by_outcome e;
         })

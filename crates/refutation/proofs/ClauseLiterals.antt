@@ -5,7 +5,6 @@ use mathlib.Core.List.{List, [], ◌∷◌, ◌++◌}
 use Prim.Native.Nat.{ℕ, zero, suc, ◌+◌, ◌<◌, ◌≤◌}
 use native.Mathlib.Nat.{not-suc-le-zero}
 use native.Mathlib.Numerals.{add-one}
-use native.Mathlib.Omega.{arith}
 use borrow.Author.Tests.{leb-true}
 use lib.IntN.{ℤ, pos, negsuc}
 use lib.Dec.{eqb, leb, eqb-zero-suc, eqb-suc-zero, eqb-suc-suc}
@@ -54,9 +53,6 @@ pub record LiteralAt (variables : ℕ) (clause : List ℤ) (i : ℕ) : Type 0 wh
 module _ {variables : ℕ} {clause : List ℤ} {i : ℕ} (t : LiteralAt variables clause i) where
   pub within_at : literal_within variables (literal_at clause i) ≡ true
   within_at = all_of_at (literal_within variables) clause i (pos 0) t.inside t.below
-
-  pub literal_fits : {n : ℕ} → variables < n → variable_of (literal_at clause i) < n
-  literal_fits room = omega (arith, within_at_most variables (literal_at clause i) within_at)
 
   pub take_more : take (i + 1) clause ≡ take i clause ++ (literal_at clause i ∷ [])
   take_more = rw (add-one i) (take-suc clause i (pos 0) t.below)

@@ -1,15 +1,19 @@
 -- Clauses by the places where they begin. Assumes nothing.
 use mathlib.Core.Path.{◌≡◌, refl, sym, ◌∙◌, ap}
-use mathlib.Core.Bool.{true, false≢true}
+use mathlib.Core.Bool.{Bool, true, false, cond, false≢true}
 use mathlib.Core.List.{List, [], ◌∷◌, ◌++◌}
 use Prim.Native.Nat.{ℕ, zero, suc, ◌+◌, ◌-◌, ◌<◌, ◌≤◌}
 use native.Mathlib.Omega.{arith}
 use borrow.Author.Count.{below_more}
+use borrow.Author.Tests.{ltb-false}
+use lib.Dec.{ltb}
 use lib.IntN.{ℤ, pos, negsuc}
-use lib.ListN.{length, get_or, drop, set, length-set, length-drop, length-append, get_or-append}
-use lib.Seq.{drop-drop, drop-nil, get_or-set_same, get_or-set_other, get_or-append_seam, get_or-append-add}
+use lib.ListN.{length, get_or, take, drop, set, length-set, length-drop, length-append, get_or-append}
+use lib.Seq.{take_all, drop-drop, drop-nil, get_or-set_same, get_or-set_other, get_or-append_seam, get_or-append-add}
+use Rattle.std.specs.Prelude.{Some, None}
+use Rattle.std.specs.List.{position, position_or_len}
 use Rattle.clauses.specs.Clauses.{Clause}
-use Rattle.clauses.specs.CnfWords.{clauses_of, in_front, ended, ended_after}
+use Rattle.clauses.specs.CnfWords.{clauses_of, in_front, is_0, ended, ended_after}
 use Rattle.refutation.specs.Work.{up_to_0, clause_from, Places}
 
 -- ════════ Clauses one by one ════════
@@ -52,6 +56,41 @@ pub ended_inside : (ws : List ℤ) (i : ℕ) → ended ws ≡ true → i < lengt
 ended_inside ws i e h =
     omega (arith, has_0 (drop i ws) (ended_drop i ws e) (rw length-drop (omega arith)), length-drop i ws)
 
+one_more : (ws : List ℤ) → 1 + position_or_len is_0 ws ≡ suc (position_or_len is_0 ws)
+one_more ws = omega arith
+
+-- The first 0 ends the first clause; without one all words are its.
+up_to_first_0 : (ws : List ℤ) → up_to_0 ws ≡ take (position_or_len is_0 ws) ws
+up_to_first_0 [] = refl
+up_to_first_0 (pos zero ∷ ws) = refl
+up_to_first_0 (pos (suc n) ∷ ws) = rw (one_more ws) (ap (λ (c : Clause). pos (suc n) ∷ c) (up_to_first_0 ws))
+up_to_first_0 (negsuc n ∷ ws) = rw (one_more ws) (ap (λ (c : Clause). negsuc n ∷ c) (up_to_first_0 ws))
+
+to_first_0 : (ws : List ℤ) (n : ℕ) → position is_0 ws ≡ Some n → take n ws ≡ up_to_0 ws
+to_first_0 ws n e = go (ltb (position_or_len is_0 ws) (length ws)) e
+  where
+    go : (b : Bool) → cond b (Some (position_or_len is_0 ws)) None ≡ Some n → take n ws ≡ up_to_0 ws
+    go true e = let q : position_or_len is_0 ws ≡ n = cc in rw (← q) (sym (up_to_first_0 ws))
+    go false e = cc
+
+to_the_end : (ws : List ℤ) → position is_0 ws ≡ None → ws ≡ up_to_0 ws
+to_the_end ws e = go (ltb (position_or_len is_0 ws) (length ws)) refl e
+  where
+    go : (b : Bool) → ltb (position_or_len is_0 ws) (length ws) ≡ b → cond b (Some (position_or_len is_0 ws)) None ≡ None → ws ≡ up_to_0 ws
+    go true h e = cc
+    go false h e = sym (up_to_first_0 ws ∙ take_all (position_or_len is_0 ws) ws (ltb-false _ _ h))
+
+-- The clause that begins at a place, from the part of the words that begins there.
+module _ (ws : List ℤ) (i : ℕ) (h : i ≤ length ws) where
+  part_is : take (length ws - i) (drop i ws) ≡ drop i ws
+  part_is = take_all (length ws - i) (drop i ws) (omega (arith, length-drop i ws))
+
+  pub clause_to_0 : {n : ℕ} → position is_0 (take (length ws - i) (drop i ws)) ≡ Some n → take n (take (length ws - i) (drop i ws)) ≡ clause_from ws i
+  clause_to_0 {n} e = rw part_is (to_first_0 (drop i ws) n (rw part_is at e))
+
+  pub clause_to_end : position is_0 (take (length ws - i) (drop i ws)) ≡ None → take (length ws - i) (drop i ws) ≡ clause_from ws i
+  clause_to_end e = rw part_is (to_the_end (drop i ws) (rw part_is at e))
+
 -- ════════ Places ════════
 
 -- A word that is written past the places keeps them.
@@ -86,37 +125,14 @@ places_more {words} {first} {cs} {area} {i} p room h =
       found = λ n l. below_more (λ n. clause_from words (place n) ≡ get_or more n []) _ known new n (rw length-append at l);
     }
 
--- The clauses of the CNF and, after them, those of the refutation, both by their places: a clause by its number.
-module _
-    {cnf refutation : List ℤ} {cs ds : List Clause} {area : List ℕ}
-    (p : Places cnf 0 cs area) (q : Places refutation (length cs) ds area)
-    (h : ℕ) (some : 1 ≤ h) (known : h ≤ length (cs ++ ds))
-  where
-    in_cnf : h ≤ length cs
-        → (get_or area (h - 1) 0 ≤ length cnf) × (clause_from cnf (get_or area (h - 1) 0) ≡ get_or (cs ++ ds) (h - 1) [])
-    in_cnf l =
-        let e : 0 + (h - 1) ≡ h - 1 = omega arith in
-        let below : h - 1 < length cs = omega arith in (
-          rw e at (p.inside (h - 1) below),
-          rw e at (p.found (h - 1) below) ∙ sym (get_or-append cs ds [] (h - 1) below),
-        )
-
-    in_refutation : length cs < h
-        → (get_or area (h - 1) 0 ≤ length refutation) × (clause_from refutation (get_or area (h - 1) 0) ≡ get_or (cs ++ ds) (h - 1) [])
-    in_refutation l =
-        let n = h - suc (length cs) in
-        let e : length cs + n ≡ h - 1 = omega arith in
-        let below : n < length ds = omega (arith, length-append cs ds) in (
-          rw e at (q.inside n below),
-          rw e at (q.found n below) ∙ sym (rw (← e) (get_or-append-add cs ds n [])),
-        )
-
-    pub lookup_inside :
-        (h ≤ length cs → get_or area (h - 1) 0 ≤ length cnf)
-        × (length cs < h → get_or area (h - 1) 0 ≤ length refutation)
-    lookup_inside = ((λ l. (in_cnf l).0), (λ l. (in_refutation l).0))
-
-    pub places_lookup :
-        (h ≤ length cs → clause_from cnf (get_or area (h - 1) 0) ≡ get_or (cs ++ ds) (h - 1) [])
-        × (length cs < h → clause_from refutation (get_or area (h - 1) 0) ≡ get_or (cs ++ ds) (h - 1) [])
-    places_lookup = ((λ l. (in_cnf l).1), (λ l. (in_refutation l).1))
+-- The clauses of the refutation stand after those of the CNF: one of them by its number.
+pub place_in_refutation : {refutation : List ℤ} (cs : List Clause) {ds : List Clause} {area : List ℕ} → Places refutation (length cs) ds area
+    → (h : ℕ) → length cs < h → h ≤ length (cs ++ ds)
+    → (get_or area (h - 1) 0 ≤ length refutation) × (clause_from refutation (get_or area (h - 1) 0) ≡ get_or (cs ++ ds) (h - 1) [])
+place_in_refutation {refutation} cs {ds} {area} q h past known =
+    let n = h - suc (length cs) in
+    let e : length cs + n ≡ h - 1 = omega arith in
+    let below : n < length ds = omega (arith, length-append cs ds) in (
+      rw e at (q.inside n below),
+      rw e at (q.found n below) ∙ sym (rw (← e) (get_or-append-add cs ds n [])),
+    )

@@ -4,7 +4,6 @@ use mathlib.Core.Path.{◌≡◌, refl, sym, ap, ◌∙◌}
 use mathlib.Core.List.{List, [], ◌∷◌, ◌++◌}
 use Prim.Native.Nat.{ℕ, zero, suc, ◌+◌, ◌<◌, ◌≤◌}
 use native.Mathlib.Nat.{add-zero}
-use native.Mathlib.Numerals.{add-one}
 use native.Mathlib.Omega.{arith}
 use borrow.Author.Tests.{le-leb, lt-leb}
 use lib.IntN.{ℤ, pos, negsuc}
@@ -28,13 +27,6 @@ tally n o = record { clauses = n; begun = o }
 -- A 0 ends a clause; any other word begins one or goes on with it.
 abbrev pub tally_after : Tally → ℤ → Tally
 tally_after t w = tally (cond (is_0 w) (suc t.clauses) t.clauses) (not (is_0 w))
-
-module _ (t : Tally) (w : ℤ) {n : ℕ} {o : Bool} where
-  pub tally_0 : is_0 w ≡ true → n ≡ t.clauses + 1 → o ≡ false → tally_after t w ≡ tally n o
-  tally_0 e p q = rw (e, p, q, add-one)
-
-  pub tally_other : is_0 w ≡ false → n ≡ t.clauses → o ≡ true → tally_after t w ≡ tally n o
-  tally_other e p q = rw (e, p, q)
 
 abbrev pub reader : ℕ → Reader
 reader variables = record {

@@ -1,20 +1,18 @@
 -- The words of a refutation, read one by one: the steps so far, whether a word stands among hints, and whether a step is begun. Assumes nothing.
-use mathlib.Core.Bool.{Bool, true, false, not, cond, ◌&&◌, ◌||◌}
+use mathlib.Core.Bool.{Bool, true, false, not, cond, ◌&&◌}
 use mathlib.Core.Path.{◌≡◌, refl, sym, ap, ◌∙◌}
 use mathlib.Core.List.{List, [], ◌∷◌, ◌++◌}
 use Prim.Native.Nat.{ℕ, zero, suc, ◌+◌}
 use native.Mathlib.Nat.{add-zero}
-use native.Mathlib.Numerals.{add-one}
 use native.Mathlib.Omega.{arith}
 use lib.IntN.{ℤ}
-use lib.Dec.{leb}
 use lib.ListN.{length}
 use Rattle.answers.proofs.Tests.{first_true}
 use Rattle.clauses.proofs.WordByWord.{Part, literals, hints, is_literals, other, part_after, own_after, right_in, word_checks, part_at_end, whole_by_parts, word_by_word}
 use Rattle.answers.specs.Answers.{Answer, check, first_failing, granted, bad_refutation}
-use Rattle.clauses.specs.Clauses.{Clause, size}
+use Rattle.clauses.specs.Clauses.{Clause}
 use Rattle.clauses.specs.CnfWords.{clauses_of, is_0, ended_after}
-use Rattle.clauses.specs.Refutations.{earlier, paired, steps_of, refutation_checks}
+use Rattle.clauses.specs.Refutations.{paired, steps_of, refutation_checks}
 use Rattle.refutation.proofs.Scan.{Reader, answer_from}
 use Rattle.refutation.proofs.CountClauses.{clauses_next}
 
@@ -36,27 +34,8 @@ at_other t = tally t.steps t.hinting true
 abbrev pub tally_after : Bool → Tally → Tally
 tally_after zero? t = cond zero? (at_0 t) (at_other t)
 
-module _ (t : Tally) {n : ℕ} where
-  pub step_ended : t.hinting ≡ true → n ≡ t.steps + 1 → n ≡ (at_0 t).steps
-  step_ended e p = rw (e, p, add-one)
-
-  pub step_left : t.hinting ≡ false → n ≡ t.steps → n ≡ (at_0 t).steps
-  step_left e p = rw (e, p)
-
-  module _ (w : ℤ) {h o : Bool} where
-    pub tally_0 : is_0 w ≡ true → n ≡ (at_0 t).steps → h ≡ not t.hinting → o ≡ not t.hinting → tally_after (is_0 w) t ≡ tally n h o
-    tally_0 e p q r = rw (e, p, q, r)
-
-    pub tally_other : is_0 w ≡ false → n ≡ t.steps → h ≡ t.hinting → o ≡ true → tally_after (is_0 w) t ≡ tally n h o
-    tally_other e p q r = rw (e, p, q, r)
-
 abbrev pub part_of : Bool → Part
 part_of h = cond h hints literals
-
-pub right_by_part : (variables own : ℕ) (h : Bool) (w : ℤ)
-    → cond h (is_0 w || earlier own w) (leb (size w) variables) ≡ right_in variables (part_of h) own w
-right_by_part variables own true w = refl
-right_by_part variables own false w = refl
 
 abbrev pub reader : ℕ → ℕ → Reader
 reader variables clauses = record {

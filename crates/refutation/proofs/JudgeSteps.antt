@@ -1,14 +1,13 @@
 -- The steps judged one after the other: the answer that is left, and how both areas stand. Assumes nothing.
 use mathlib.Core.Path.{◌≡◌, refl, sym, ◌∙◌, ap}
-use mathlib.Core.Bool.{Bool, true, false, cond}
+use mathlib.Core.Bool.{Bool, true, false}
 use mathlib.Core.List.{List, [], ◌∷◌, ◌++◌, map, append_assoc, append-nil}
 use Prim.Native.Nat.{ℕ, suc, ◌+◌, ◌<◌, ◌≤◌}
 use native.Mathlib.Numerals.{add-one}
 use native.Mathlib.Omega.{arith}
 use lib.IntN.{ℤ}
 use lib.Dec.{eqb}
-use lib.ListN.{length, drop, set, length-set}
-use lib.Seq.{drop-set-lt}
+use lib.ListN.{length, drop, set}
 use Rattle.answers.proofs.Tests.{no_elements, both_true, all_of_append}
 use Rattle.answers.specs.Lists.{all_of, empty}
 use Rattle.answers.specs.Answers.{Answer, check, first_failing_part, granted, step_refused, not_closed}
@@ -18,7 +17,7 @@ use Rattle.clauses.specs.Refutations.{Step, step, steps_of, step_accepted, claus
 use Rattle.refutation.specs.Work.{LiteralsWithin, Older, Marked, clause_from, step_clauses, known, Standing, StepsRight}
 use Rattle.refutation.proofs.ClausePlaces.{places_kept, places_more}
 use Rattle.refutation.proofs.KnownClauses.{steps_length}
-use Rattle.refutation.proofs.StepWords.{StepAt, past, first_step, no_step_left, step_here, steps_here, one_left, step_inside, step_right, step_clauses_more, step_after}
+use Rattle.refutation.proofs.StepWords.{StepAt, past, first_step, step_here, steps_here, step_inside, step_right, step_clauses_more, step_after}
 
 -- ════════ The answer that is left ════════
 
@@ -51,7 +50,7 @@ module _ (cs : List Clause) (s : ℕ) (closed : Bool) (total : ℕ) (t : Step) (
 
 -- ════════ One step more ════════
 
-module _ (cnf : List ℤ) {variables clauses : ℕ} {ws : List ℤ} {s at : ℕ} (p : StepAt variables clauses ws s at) (l : at < length ws) where
+module _ (cnf : List ℤ) {variables clauses : ℕ} {ws : List ℤ} {s at : ℕ} (p : StepAt variables clauses ws s at) (l : s < length (steps_of ws)) where
   known_more : known cnf ws (s + 1) ≡ known cnf ws s ++ (clause_from ws at ∷ [])
   known_more = rw (step_clauses_more p l, append_assoc)
 
@@ -59,10 +58,10 @@ module _ (cnf : List ℤ) {variables clauses : ℕ} {ws : List ℤ} {s at : ℕ}
       → Standing variables cnf ws clauses (s + 1) (set area (clauses + s) at)
   standing_more {area} st room =
       let place : length (clauses_of cnf) + length (step_clauses ws s) ≡ clauses + s = omega (arith, steps_length st, st.counted) in
-      let below : clauses + s < length area = omega (arith, one_left p l) in
+      let below : clauses + s < length area = omega arith in
       record {
         counted = st.counted;
-        begun = omega (arith, one_left p l);
+        begun = omega arith;
         of_cnf = places_kept st.of_cnf (clauses + s) at (omega (arith, st.counted));
         of_steps = rw (step_clauses_more p l) (rw place at (places_more st.of_steps (rw place below) p.inside));
         within =
@@ -71,49 +70,32 @@ module _ (cnf : List ℤ) {variables clauses : ℕ} {ws : List ℤ} {s at : ℕ}
       }
 
 -- How the areas stand, and the answer that is left, where so many steps are accepted and the next begins at a place.
-pub record Judging (variables : ℕ) (cnf ws : List ℤ) (clauses : ℕ) (values₀ places₀ values places : List ℕ) (done : ℕ) (closed : Bool) (at : ℕ) : Type 0 where
+pub record Judging (variables : ℕ) (cnf ws : List ℤ) (clauses : ℕ) (values places : List ℕ) (done : ℕ) (closed : Bool) (at : ℕ) : Type 0 where
   pub words : StepAt variables clauses ws done at
   pub standing : Standing variables cnf ws clauses done places
   pub older : Older variables (suc done) values
-  pub values_long : length values ≡ length values₀
-  pub values_past : drop (suc variables) values ≡ drop (suc variables) values₀
-  pub places_long : length places ≡ length places₀
-  pub places_past : drop (clauses + length (steps_of ws)) places ≡ drop (clauses + length (steps_of ws)) places₀
   pub left : judge_steps (clauses_of cnf) (steps_of ws) ≡ answer_left (known cnf ws done) done closed (length (steps_of ws)) (steps_of (drop at ws))
 
 pub none_judged : {variables : ℕ} {cnf ws : List ℤ} {clauses : ℕ} {values places : List ℕ} → StepsRight variables clauses ws
-    → Standing variables cnf ws clauses 0 places → Older variables 1 values → Judging variables cnf ws clauses values places values places 0 false 0
+    → Standing variables cnf ws clauses 0 places → Older variables 1 values → Judging variables cnf ws clauses values places 0 false 0
 none_judged {variables} {cnf} {ws} {clauses} right st old =
     record {
       words = first_step variables clauses ws right;
       standing = st;
       older = old;
-      values_long = refl;
-      values_past = refl;
-      places_long = refl;
-      places_past = refl;
       left = rw append-nil (all_left (clauses_of cnf) (steps_of ws));
     }
 
-module _ {variables : ℕ} {cnf ws : List ℤ} {clauses : ℕ} {values₀ places₀ values places : List ℕ} {done : ℕ} {closed : Bool} {at : ℕ}
-    (j : Judging variables cnf ws clauses values₀ places₀ values places done closed at)
+-- A step is left. Its parts are as the code has them.
+module _ {variables : ℕ} {cnf ws : List ℤ} {clauses : ℕ} {values places : List ℕ} {done : ℕ} {closed : Bool} {at : ℕ}
+    (j : Judging variables cnf ws clauses values places done closed at)
   where
-    -- No step is left: yes, or 14.
-    pub all_judged : length ws ≤ at → judge_steps (clauses_of cnf) (steps_of ws) ≡ cond closed (granted 0) (not_closed done)
-    all_judged h =
-        let none = no_step_left j.words h in
-        j.left ∙ rw (none.1, none.0)
-
-    -- A step is left. Its parts are as the code has them.
-    module _ (l : at < length ws) {clause : List ℤ} (c-is : clause ≡ clause_from ws at) where
+    module _ (l : done < length (steps_of ws)) {clause : List ℤ} (c-is : clause ≡ clause_from ws at) where
       from_is : at + length clause + 1 ≡ past ws at
       from_is = rw c-is
 
       pub hints_begin : at + length clause + 1 ≤ length ws
       hints_begin = rw from_is (step_inside j.words l).0
-
-      pub step_room : clauses + done < clauses + length (steps_of ws)
-      step_room = omega (arith, one_left j.words l)
 
       module _ {hints : List ℤ} (h-is : hints ≡ clause_from ws (at + length clause + 1)) where
         abbrev here : Step
@@ -131,34 +113,27 @@ module _ {variables : ℕ} {cnf ws : List ℤ} {clauses : ℕ} {values₀ places
         end_is : at + length clause + 1 + length hints + 1 ≡ past ws (past ws at)
         end_is = omega (arith, from_is, ap length hints_is)
 
-        pub step_end : at + length clause + 1 + length hints + 1 ≤ length ws
-        step_end = rw end_is (step_inside j.words l).1
-
         pub parts_right : LiteralsWithin variables clause × LiteralsWithin (clauses + done) hints
         parts_right = rw (c-is, hints_is) (step_right j.words l)
 
         pub step_refusal : false ≡ step_accepted (clause_numbered (known cnf ws done)) (step clause (map variable_of hints))
-            → judge_steps (clauses_of cnf) (steps_of ws) ≡ step_refused done
+            → step_refused done ≡ judge_steps (clauses_of cnf) (steps_of ws)
         step_refusal e =
             let no = sym (rw step_is at e) in
-            j.left ∙ rw (steps_here j.words l) (left_refused (known cnf ws done) done closed (length (steps_of ws)) here others no)
+            sym (j.left ∙ rw (steps_here j.words l) (left_refused (known cnf ws done) done closed (length (steps_of ws)) here others no))
 
-        pub step_judged : {values' : List ℕ} → clauses + length (steps_of ws) ≤ length places₀
+        pub step_judged : {values' : List ℕ} {empty' : Bool} → clauses + length (steps_of ws) ≤ length places
             → true ≡ step_accepted (clause_numbered (known cnf ws done)) (step clause (map variable_of hints))
-            → Marked variables (suc done) values values' → length values' ≡ length values
-            → Judging variables cnf ws clauses values₀ places₀ values' (set places (clauses + done) at) (done + 1) (eqb (length clause) 0) (at + length clause + 1 + length hints + 1)
-        step_judged room e m long =
+            → Marked variables (suc done) values values' → empty' ≡ eqb (length clause) 0
+            → Judging variables cnf ws clauses values' (set places (clauses + done) at) (done + 1) empty' (at + length clause + 1 + length hints + 1)
+        step_judged room e m none =
             let yes = sym (rw step_is at e) in
             let more : known cnf ws (done + 1) ≡ with_step (known cnf ws done) here = known_more cnf j.words l in
-            rw (end_is, c-is)
+            rw (end_is, none, c-is)
             (record {
               words = step_after j.words l;
-              standing = standing_more cnf j.words l j.standing (rw j.places_long room);
+              standing = standing_more cnf j.words l j.standing room;
               older = rw (add-one done) m.not_later;
-              values_long = long ∙ j.values_long;
-              values_past = m.past ∙ j.values_past;
-              places_long = length-set places (clauses + done) at ∙ j.places_long;
-              places_past = drop-set-lt (clauses + length (steps_of ws)) places (clauses + done) at step_room ∙ j.places_past;
               left =
                   rw (more, add-one done, no_elements)
                   (j.left ∙ rw (steps_here j.words l) (left_accepted (known cnf ws done) done closed (length (steps_of ws)) here others yes));

@@ -11,7 +11,8 @@ use Rattle.clauses.specs.CnfWords.{clauses_of}
 use Rattle.clauses.specs.Refutations.{steps_of, numbers_area, clauses_area, judged, area_after}
 use Rattle.clauses.specs.Cases.{t_steps, t_other_steps}
 use Rattle.refutation.specs.Promise.{answer_of}
-use Rattle.refutation.specs.declared.RefutationAnswer.{RefutationAnswer}
+use Rattle.std.specs.Prelude.{Result}
+use Rattle.refutation.specs.declared.NotRefuted.{NotRefuted}
 use Rattle.refutation.proofs.Lazy.{Input, Breaks, laid_down, over_t, T, t_other, t_open, bad_hint, few_numbers, few_clauses, bad_cnf_literal}
 
 -- ════════ An area after the call ════════
@@ -36,7 +37,7 @@ module _ (a : Answer) (needed : ℕ) (area : List ℕ) where
 
 -- ════════ Any input at which the steps are judged: yes, 13, 14 ════════
 
-module _ (x : Input) (e : judged (laid_down x) ≡ true) (r : RefutationAnswer) (numbers' clauses' : List ℕ) (i : ℕ) where
+module _ (x : Input) (e : judged (laid_down x) ≡ true) (r : Result Unit NotRefuted) (numbers' clauses' : List ℕ) (i : ℕ) where
   pub number_word_left_breaks : i < numbers_area x.variables → ¬ (get_or numbers' i 0 ≡ 0) → Breaks x r numbers' clauses'
   unfolding laid_down
   number_word_left_breaks h w j =
@@ -61,7 +62,7 @@ module _ (x : Input) (e : judged (laid_down x) ≡ true) (r : RefutationAnswer) 
 
 -- ════════ Any input at which they are not: 11, 12, 16 ════════
 
-module _ (x : Input) (e : judged (laid_down x) ≡ false) (r : RefutationAnswer) (numbers' clauses' : List ℕ) where
+module _ (x : Input) (e : judged (laid_down x) ≡ false) (r : Result Unit NotRefuted) (numbers' clauses' : List ℕ) where
   pub numbers_changed_breaks : ¬ (numbers' ≡ x.numbers) → Breaks x r numbers' clauses'
   unfolding laid_down
   numbers_changed_breaks w j = w (j.numbers_left ∙ untouched (answer_of r) _ _ (ap judged j.answered ∙ e))
@@ -73,7 +74,7 @@ module _ (x : Input) (e : judged (laid_down x) ≡ false) (r : RefutationAnswer)
 -- ════════ A work word left behind, at T and the like ════════
 
 -- The judge gives any answer, and leaves any areas; T needs 7 and 13 words.
-module _ (r : RefutationAnswer) (numbers' clauses' : List ℕ) (i : ℕ) where
+module _ (r : Result Unit NotRefuted) (numbers' clauses' : List ℕ) (i : ℕ) where
   pub number_left_at_yes_breaks : i < 7 → ¬ (get_or numbers' i 0 ≡ 0) → Breaks T r numbers' clauses'
   unfolding laid_down
   number_left_at_yes_breaks = number_word_left_breaks T refl r numbers' clauses' i
@@ -105,7 +106,7 @@ t_roomy = over_t t_steps 9 15
 abbrev pub t_other_roomy : Input
 t_other_roomy = over_t t_other_steps 9 15
 
-module _ (r : RefutationAnswer) (numbers' clauses' : List ℕ) (i : ℕ) where
+module _ (r : Result Unit NotRefuted) (numbers' clauses' : List ℕ) (i : ℕ) where
   pub number_past_at_yes_breaks : 7 ≤ i → i < 9 → ¬ (get_or numbers' i 0 ≡ 9) → Breaks t_roomy r numbers' clauses'
   unfolding laid_down
   number_past_at_yes_breaks h l w =
@@ -128,7 +129,7 @@ module _ (r : RefutationAnswer) (numbers' clauses' : List ℕ) (i : ℕ) where
 
 -- ════════ A buffer changed at 11, 12 or 16 ════════
 
-module _ (r : RefutationAnswer) (numbers' clauses' : List ℕ) where
+module _ (r : Result Unit NotRefuted) (numbers' clauses' : List ℕ) where
   pub numbers_changed_at_bad_word_breaks : ¬ (numbers' ≡ bad_hint.numbers) → Breaks bad_hint r numbers' clauses'
   unfolding laid_down
   numbers_changed_at_bad_word_breaks = numbers_changed_breaks bad_hint refl r numbers' clauses'

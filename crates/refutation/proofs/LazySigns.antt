@@ -17,8 +17,9 @@ use Rattle.answers.proofs.Tests.{not_both, false_if_not_true}
 use Rattle.clauses.proofs.StepRule.{by_no_hints}
 use Rattle.clauses.proofs.NeverAHint.{never_a_hint}
 use Rattle.clauses.proofs.StepByStep.{step_at, clauses_before, accepted_at, Reached, yes_accepts, open_accepts, refused_at, answered_13}
-use Rattle.refutation.specs.declared.RefutationAnswer.{RefutationAnswer}
-use Rattle.refutation.specs.declared.RefutationAnswer.TheVariants.{Yes, StepRefused, NotClosed}
+use Rattle.std.specs.Prelude.{Result, Ok, Err}
+use Rattle.refutation.specs.declared.NotRefuted.{NotRefuted}
+use Rattle.refutation.specs.declared.NotRefuted.TheVariants.{StepRefused, NotClosed}
 use Rattle.refutation.proofs.Unique.{same_answer}
 use Rattle.refutation.proofs.Lazy.{Input, Wrong, laid_down, wrong_number, over_t}
 use Rattle.refutation.proofs.LazySteps.{Rule, Adding, answer_by, of_hints, hints_by, answer_adding}
@@ -40,13 +41,13 @@ module _ (x : Input) (i : ℕ) where
   accepted_here = accepted_at (clauses_of x.cnf) steps
 
   -- Both signs and no hints, and refused: document 01 as it was.
-  pub refused_without_hints_breaks : both_signs here.clause ≡ true → empty here.hints ≡ true → Wrong x (StepRefused i)
+  pub refused_without_hints_breaks : both_signs here.clause ≡ true → empty here.hints ≡ true → Wrong x (Err (StepRefused i))
   refused_without_hints_breaks b e numbers' clauses' j =
       not_both (by_no_hints named_here here b ∙ e) (refused_at x.variables x.cnf x.refutation _ _ i (sym j.answered)).1
 
   module _ (inside : i < length steps) where
     -- A step that the rule refuses: neither yes nor 14 meets the promise,
-    passed_over_breaks : accepted_here i ≡ false → Wrong x Yes × ((n : ℕ) → Wrong x (NotClosed n))
+    passed_over_breaks : accepted_here i ≡ false → Wrong x (Ok tt) × ((n : ℕ) → Wrong x (Err (NotClosed n)))
     passed_over_breaks refused = (
       λ numbers' clauses' j. not_both (yes_accepts x.variables x.cnf x.refutation _ _ (sym j.answered) i inside) refused,
       λ n numbers' clauses' j. not_both (open_accepts x.variables x.cnf x.refutation _ _ n (sym j.answered) i inside) refused,
@@ -54,15 +55,15 @@ module _ (x : Input) (i : ℕ) where
 
     -- and nothing but 13 at it where 16, 11 and 12 pass and the steps before it are accepted.
     pub other_than_13_breaks : Reached x.variables x.cnf x.refutation (length x.numbers) (length x.clauses)
-        → ((h : ℕ) → h < i → accepted_here h ≡ true) → accepted_here i ≡ false → (r : RefutationAnswer) → ¬ (r ≡ StepRefused i) → Wrong x r
+        → ((h : ℕ) → h < i → accepted_here h ≡ true) → accepted_here i ≡ false → (r : Result Unit NotRefuted) → ¬ (r ≡ Err (StepRefused i)) → Wrong x r
     other_than_13_breaks reached before refused r other numbers' clauses' j =
-        other (same_answer r (StepRefused i) (j.answered ∙ answered_13 x.variables x.cnf x.refutation _ _ reached i inside before refused))
+        other (same_answer r (Err (StepRefused i)) (j.answered ∙ answered_13 x.variables x.cnf x.refutation _ _ reached i inside before refused))
 
     -- Such a step is one with both signs and hints,
     pub refused_with_hints : both_signs here.clause ≡ true → empty here.hints ≡ false → accepted_here i ≡ false
     refused_with_hints b e = by_no_hints named_here here b ∙ e
 
-    pub accepted_with_hints_breaks : both_signs here.clause ≡ true → empty here.hints ≡ false → Wrong x Yes × ((n : ℕ) → Wrong x (NotClosed n))
+    pub accepted_with_hints_breaks : both_signs here.clause ≡ true → empty here.hints ≡ false → Wrong x (Ok tt) × ((n : ℕ) → Wrong x (Err (NotClosed n)))
     accepted_with_hints_breaks b e = passed_over_breaks (refused_with_hints b e)
 
     -- and one with a hint that names a clause with both signs.
@@ -70,7 +71,7 @@ module _ (x : Input) (i : ℕ) where
     refused_by_both_signs m c q b = false_if_not_true (accepted_here i) (λ e. not_both b (never_a_hint named_here here e m c q))
 
     pub accepted_by_both_signs_breaks : {h : ℕ} → Memᴰ h here.hints → (c : Clause) → named_here h ≡ some c → both_signs c ≡ true
-        → Wrong x Yes × ((n : ℕ) → Wrong x (NotClosed n))
+        → Wrong x (Ok tt) × ((n : ℕ) → Wrong x (Err (NotClosed n)))
     accepted_by_both_signs_breaks m c q b = passed_over_breaks (refused_by_both_signs m c q b)
 
 -- ════════ By inputs: refused always, accepted always, judged by its hints ════════
@@ -89,7 +90,7 @@ both_signs_refused cs i s ss = not (both_signs s.clause) && hints_conflict (clau
 
 pub both_signs_refused_breaks : Wrong trivial_first (answer_by both_signs_refused trivial_first)
 unfolding laid_down
-both_signs_refused_breaks = wrong_number trivial_first (StepRefused 0) (λ e. omega arith)
+both_signs_refused_breaks = wrong_number trivial_first (Err (StepRefused 0)) (λ e. omega arith)
 
 -- Accepted, whatever its hints. This judge says yes to the second.
 abbrev pub both_signs_accepted : Rule
@@ -97,7 +98,7 @@ both_signs_accepted cs i s ss = both_signs s.clause || hints_conflict (clause_nu
 
 pub both_signs_accepted_breaks : Wrong trivial_with_hint (answer_by both_signs_accepted trivial_with_hint)
 unfolding laid_down
-both_signs_accepted_breaks = wrong_number trivial_with_hint Yes (λ e. omega arith)
+both_signs_accepted_breaks = wrong_number trivial_with_hint (Ok tt) (λ e. omega arith)
 
 -- The signs not looked at: 1 is set both ways, and the hint's clause, (1), is the conflict. This judge is wrong on both.
 abbrev pub signs_not_looked_at : Rule
@@ -105,11 +106,11 @@ signs_not_looked_at cs i s ss = hints_conflict (clause_numbered cs) (map negated
 
 pub signs_not_looked_at_breaks : Wrong trivial_with_hint (answer_by signs_not_looked_at trivial_with_hint)
 unfolding laid_down
-signs_not_looked_at_breaks = wrong_number trivial_with_hint Yes (λ e. omega arith)
+signs_not_looked_at_breaks = wrong_number trivial_with_hint (Ok tt) (λ e. omega arith)
 
 pub hint_asked_for_breaks : Wrong trivial_first (answer_by signs_not_looked_at trivial_first)
 unfolding laid_down
-hint_asked_for_breaks = wrong_number trivial_first (StepRefused 0) (λ e. omega arith)
+hint_asked_for_breaks = wrong_number trivial_first (Err (StepRefused 0)) (λ e. omega arith)
 
 -- ════════ Its clause not added ════════
 
@@ -123,7 +124,7 @@ numbered_past_trivial = over_t t_trivial_numbered 7 15
 
 pub left_out_breaks : Wrong numbered_past_trivial (answer_adding left_out numbered_past_trivial)
 unfolding laid_down
-left_out_breaks = wrong_number numbered_past_trivial (StepRefused 2) (λ e. omega arith)
+left_out_breaks = wrong_number numbered_past_trivial (Err (StepRefused 2)) (λ e. omega arith)
 
 -- With 13, which is (1 -1), for that hint: 13 at 2 is right, and this judge takes it for (-4) and says yes.
 abbrev pub hints_at_trivial : Input
@@ -137,7 +138,7 @@ hints_at_trivial =
 
 pub shifted_numbers_break : Wrong hints_at_trivial (answer_adding left_out hints_at_trivial)
 unfolding laid_down
-shifted_numbers_break = wrong_number hints_at_trivial Yes (λ e. omega arith)
+shifted_numbers_break = wrong_number hints_at_trivial (Ok tt) (λ e. omega arith)
 
 -- ════════ A later hint that names it taken as a unit ════════
 
@@ -155,4 +156,4 @@ trivial_hinted = over_t t_trivial_hinted 7 14
 
 pub unit_by_variable_breaks : Wrong trivial_hinted (answer_by unit_by_variable trivial_hinted)
 unfolding laid_down
-unit_by_variable_breaks = wrong_number trivial_hinted Yes (λ e. omega arith)
+unit_by_variable_breaks = wrong_number trivial_hinted (Ok tt) (λ e. omega arith)

@@ -14,8 +14,9 @@ use Rattle.clauses.specs.Clauses.{Clause, minus, negated, same}
 use Rattle.clauses.specs.CnfWords.{clauses_of}
 use Rattle.clauses.specs.Refutations.{Step, steps_of, both_signs, clause_numbered, not_false, Outcome, conflict, unit, neither, outcome, step_accepted, step_checks, with_step, last_is_empty_after, judge_steps}
 use Rattle.refutation.specs.Promise.{answer_of}
-use Rattle.refutation.specs.declared.RefutationAnswer.{RefutationAnswer}
-use Rattle.refutation.specs.declared.RefutationAnswer.TheVariants.{Yes, StepRefused, NotClosed}
+use Rattle.std.specs.Prelude.{Result, Ok, Err}
+use Rattle.refutation.specs.declared.NotRefuted.{NotRefuted}
+use Rattle.refutation.specs.declared.NotRefuted.TheVariants.{StepRefused, NotClosed}
 use Rattle.refutation.proofs.Lazy.{Input, Wrong, laid_down, wrong_number, over_t}
 
 -- ════════ Judging by a rule ════════
@@ -29,19 +30,19 @@ abbrev pub Adding : Type 0
 Adding = List Clause → Step → List Clause
 
 -- The steps from number i on; `closed` says whether the clause before them is empty.
-abbrev pub steps_by : Adding → Rule → List Clause → ℕ → Bool → List Step → RefutationAnswer
-steps_by adds rule cs i closed [] = cond closed Yes (NotClosed i)
+abbrev pub steps_by : Adding → Rule → List Clause → ℕ → Bool → List Step → Result Unit NotRefuted
+steps_by adds rule cs i closed [] = cond closed (Ok tt) (Err (NotClosed i))
 steps_by adds rule cs i closed (s ∷ ss) =
-    cond (rule cs i s ss) (steps_by adds rule (adds cs s) (suc i) (empty s.clause) ss) (StepRefused i)
+    cond (rule cs i s ss) (steps_by adds rule (adds cs s) (suc i) (empty s.clause) ss) (Err (StepRefused i))
 
 -- What a judge by this rule answers, where the words and the work areas are right.
-abbrev pub answer_by : Rule → Input → RefutationAnswer
+abbrev pub answer_by : Rule → Input → Result Unit NotRefuted
 answer_by rule x = steps_by with_step rule (clauses_of x.cnf) 0 false (steps_of x.refutation)
 
 abbrev pub the_rule : Rule
 the_rule cs i s ss = step_accepted (clause_numbered cs) s
 
-answer_cond : (b : Bool) (p q : RefutationAnswer) → answer_of (cond b p q) ≡ cond b (answer_of p) (answer_of q)
+answer_cond : (b : Bool) (p q : Result Unit NotRefuted) → answer_of (cond b p q) ≡ cond b (answer_of p) (answer_of q)
 answer_cond true p q = refl
 answer_cond false p q = refl
 
@@ -72,7 +73,7 @@ second_refused = over_t (pos 0 ∷ pos 2 ∷ pos 12 ∷ pos 5 ∷ pos 0 ∷ pos 
 
 pub first_step_only_breaks : Wrong second_refused (answer_by first_step_only second_refused)
 unfolding laid_down
-first_step_only_breaks = wrong_number second_refused Yes (λ e. omega arith)
+first_step_only_breaks = wrong_number second_refused (Ok tt) (λ e. omega arith)
 
 -- 4 0 12 0, then 5 0 0: the clause [4] from clause 12, then [5] with no hint. 13 at 1 is right, and this judge says 14 at 2.
 abbrev pub second_refused_open : Input
@@ -80,12 +81,12 @@ second_refused_open = over_t (pos 4 ∷ pos 0 ∷ pos 12 ∷ pos 0 ∷ pos 5 ∷
 
 pub first_step_only_open_breaks : Wrong second_refused_open (answer_by first_step_only second_refused_open)
 unfolding laid_down
-first_step_only_open_breaks = wrong_number second_refused_open (NotClosed 2) (λ e. omega arith)
+first_step_only_open_breaks = wrong_number second_refused_open (Err (NotClosed 2)) (λ e. omega arith)
 
 -- Nor does the same judge if it takes the first step for the last, and says 14 at any count.
-pub not_closed_for_refused_breaks : (n : ℕ) → Wrong second_refused_open (NotClosed n)
+pub not_closed_for_refused_breaks : (n : ℕ) → Wrong second_refused_open (Err (NotClosed n))
 unfolding laid_down
-not_closed_for_refused_breaks n = wrong_number second_refused_open (NotClosed n) (λ e. omega arith)
+not_closed_for_refused_breaks n = wrong_number second_refused_open (Err (NotClosed n)) (λ e. omega arith)
 
 abbrev pub last_step_only : Rule
 last_step_only cs i s ss = not (empty ss) || step_accepted (clause_numbered cs) s
@@ -96,7 +97,7 @@ first_refused = over_t (pos 0 ∷ pos 12 ∷ pos 5 ∷ pos 0 ∷ pos 0 ∷ pos 2
 
 pub last_step_only_breaks : Wrong first_refused (answer_by last_step_only first_refused)
 unfolding laid_down
-last_step_only_breaks = wrong_number first_refused Yes (λ e. omega arith)
+last_step_only_breaks = wrong_number first_refused (Ok tt) (λ e. omega arith)
 
 -- 0 0, then 0 13 0: the empty clause with no hint, then the same from it. 13 at 0 is right, and this judge says yes.
 abbrev pub leans_on_refused : Input
@@ -104,7 +105,7 @@ leans_on_refused = over_t (pos 0 ∷ pos 0 ∷ pos 0 ∷ pos 13 ∷ pos 0 ∷ []
 
 pub leaning_on_refused_breaks : Wrong leans_on_refused (answer_by last_step_only leans_on_refused)
 unfolding laid_down
-leaning_on_refused_breaks = wrong_number leans_on_refused Yes (λ e. omega arith)
+leaning_on_refused_breaks = wrong_number leans_on_refused (Ok tt) (λ e. omega arith)
 
 -- ════════ A wrong rule for the hints ════════
 
@@ -133,7 +134,7 @@ early_conflict = over_t (pos 0 ∷ pos 2 ∷ pos 12 ∷ pos 5 ∷ pos 2 ∷ pos 
 
 pub early_conflict_breaks : Wrong early_conflict (answer_by any_conflict early_conflict)
 unfolding laid_down
-early_conflict_breaks = wrong_number early_conflict Yes (λ e. omega arith)
+early_conflict_breaks = wrong_number early_conflict (Ok tt) (λ e. omega arith)
 
 -- The literals that are not false are one literal: a unit, even where that literal is true.
 abbrev pub unit_or_true : List ℤ → Outcome
@@ -149,7 +150,7 @@ hint_again = over_t (pos 0 ∷ pos 2 ∷ pos 2 ∷ pos 12 ∷ pos 5 ∷ pos 0 �
 
 pub true_hint_breaks : Wrong hint_again (answer_by true_is_unit hint_again)
 unfolding laid_down
-true_hint_breaks = wrong_number hint_again Yes (λ e. omega arith)
+true_hint_breaks = wrong_number hint_again (Ok tt) (λ e. omega arith)
 
 -- Units are enough, without a conflict.
 abbrev pub no_conflict_needed : Rule
@@ -161,7 +162,7 @@ no_conflict = over_t (pos 0 ∷ pos 2 ∷ pos 12 ∷ pos 0 ∷ []) 7 13
 
 pub no_conflict_breaks : Wrong no_conflict (answer_by no_conflict_needed no_conflict)
 unfolding laid_down
-no_conflict_breaks = wrong_number no_conflict Yes (λ e. omega arith)
+no_conflict_breaks = wrong_number no_conflict (Ok tt) (λ e. omega arith)
 
 -- A clause that gives nothing is passed over: only the word 0, which is no literal, becomes true.
 abbrev pub skipped : Outcome → Outcome
@@ -178,12 +179,12 @@ idle_hint = over_t (pos 0 ∷ pos 3 ∷ pos 2 ∷ pos 12 ∷ pos 5 ∷ pos 0 ∷
 
 pub skipped_hint_breaks : Wrong idle_hint (answer_by skips_hints idle_hint)
 unfolding laid_down
-skipped_hint_breaks = wrong_number idle_hint Yes (λ e. omega arith)
+skipped_hint_breaks = wrong_number idle_hint (Ok tt) (λ e. omega arith)
 
 -- ════════ Another clause under an accepted step's number ════════
 
 -- What a judge that adds clauses so answers.
-abbrev pub answer_adding : Adding → Input → RefutationAnswer
+abbrev pub answer_adding : Adding → Input → Result Unit NotRefuted
 answer_adding adds x = steps_by adds the_rule (clauses_of x.cnf) 0 false (steps_of x.refutation)
 
 -- None: the clause of an accepted step is not found under its number.
@@ -200,11 +201,11 @@ names_a_step = over_t (minus 4 ∷ pos 0 ∷ pos 2 ∷ pos 5 ∷ pos 0 ∷ pos 0
 
 pub clause_not_added_breaks : Wrong names_a_step (answer_adding none_added names_a_step)
 unfolding laid_down
-clause_not_added_breaks = wrong_number names_a_step (StepRefused 1) (λ e. omega arith)
+clause_not_added_breaks = wrong_number names_a_step (Err (StepRefused 1)) (λ e. omega arith)
 
 pub hints_for_clause_breaks : Wrong names_a_step (answer_adding hints_added names_a_step)
 unfolding laid_down
-hints_for_clause_breaks = wrong_number names_a_step (StepRefused 1) (λ e. omega arith)
+hints_for_clause_breaks = wrong_number names_a_step (Err (StepRefused 1)) (λ e. omega arith)
 
 -- 1 -1 0 0, then 0 13 0: hint 13 is (1 -1). 13 at 1 is right, and of a step without hints this judge adds the empty clause and says yes.
 abbrev pub names_a_trivial_step : Input
@@ -212,4 +213,4 @@ names_a_trivial_step = over_t (pos 1 ∷ minus 1 ∷ pos 0 ∷ pos 0 ∷ pos 0 �
 
 pub no_hints_for_clause_breaks : Wrong names_a_trivial_step (answer_adding hints_added names_a_trivial_step)
 unfolding laid_down
-no_hints_for_clause_breaks = wrong_number names_a_trivial_step Yes (λ e. omega arith)
+no_hints_for_clause_breaks = wrong_number names_a_trivial_step (Ok tt) (λ e. omega arith)

@@ -1,5 +1,4 @@
 -- The plain mathematics of the crate's proofs.
-pub mod NamesEarlier
 pub mod Scan
 pub mod CountClauses
 pub mod CountSteps

@@ -2,21 +2,21 @@
 use mathlib.Core.Bool.{Bool, true, false, not, ◌&&◌, ◌||◌, or-true, or-false, or_comm}
 use mathlib.Core.Path.{◌≡◌, refl, sym, ap, ap₂, ◌∙◌, fun_ext}
 use mathlib.Core.List.{List, [], ◌∷◌, ◌++◌, map, map-append}
-use Prim.Native.Nat.{ℕ, zero, suc, ◌+◌, ◌*◌, ◌<◌, ◌≤◌}
+use Prim.Native.Nat.{ℕ, zero, suc, ◌+◌, ◌<◌}
 use native.Mathlib.Omega.{arith}
-use borrow.Author.Tests.{eq-eqb, ne_eqb}
+use borrow.Author.Tests.{eq-eqb, ne_eqb, eqb-true, eqb-false}
 use lib.IntN.{ℤ, pos, negsuc, neg_ℤ-neg_ℤ}
-use lib.Dec.{eqb-zero-suc, eqb-suc-zero, eqb-suc-suc}
-use lib.ListN.{length, set, take, drop, length-set, take-append-drop}
-use lib.Seq.{take_all}
+use lib.Dec.{eqb, eqb-zero-suc, eqb-suc-zero, eqb-suc-suc}
+use lib.ListN.{set, take, drop, take-append-drop}
 use Rattle.answers.proofs.Tests.{both_true, first_true, second_true, some_of_append, some_of_map}
 use Rattle.clauses.proofs.Satisfaction.{variable_of_negated}
+use Rattle.clauses.proofs.Signs.{word}
 use Rattle.answers.specs.Lists.{some_of}
 use Rattle.clauses.specs.Clauses.{negated, variable_of, literal_within, same, among}
 use Rattle.clauses.specs.CnfWords.{is_0}
 use Rattle.clauses.specs.Refutations.{both_signs}
-use Rattle.refutation.specs.Work.{mark_of, cell, Older, Values, Marked}
-use Rattle.refutation.proofs.ClauseLiterals.{LiteralAt, literal_at, same_sym, other_sign, within_at, within_at_least, within_at_most, within_negated, take_more}
+use Rattle.refutation.specs.Work.{mark_of, cell, Values, Marked}
+use Rattle.refutation.proofs.ClauseLiterals.{LiteralAt, literal_at, same_sym, other_sign, within_at, within_at_least, within_negated, take_more}
 use Rattle.refutation.proofs.SetTrue.{marked_true, values_true}
 
 -- ════════ Tests on lists ════════
@@ -112,29 +112,15 @@ both_signs_longer p q e =
 
 -- ════════ set_false ════════
 
-mark_least : (stamp : ℕ) (w : ℤ) → 2 * stamp ≤ mark_of stamp w
-mark_least stamp (pos n) = omega arith
-mark_least stamp (negsuc n) = omega arith
-
 values_swap : (variables stamp : ℕ) (w : ℤ) (trues : List ℤ) (area : List ℕ) → Values variables stamp (w ∷ trues) area → Values variables stamp (trues ++ (w ∷ [])) area
 values_swap variables stamp w trues area vs =
     record { said = λ x h. vs.said x h ∙ or_comm (same x w) (among x trues) ∙ ap (λ b. among x trues || b) (sym (or-false (same x w))) ∙ sym (some_of_append (same x) trues (w ∷ [])) }
 
 -- How the area stands after the literals of p are set false.
 pub record SetFalse (variables stamp : ℕ) (before : List ℕ) (p : List ℤ) (area : List ℕ) : Type 0 where
-  pub long : length area ≡ length before
   pub marked : Marked variables stamp before area
   pub values : Values variables stamp (map negated p) area
   pub one_sign : both_signs p ≡ false
-
-pub set_false_none : {variables stamp : ℕ} {area : List ℕ} → Older variables stamp area → SetFalse variables stamp area [] area
-set_false_none {variables} {stamp} {area} old =
-    record {
-      long = refl;
-      marked = record { not_later = record { room = old.room; older = λ v l. omega (arith, old.older v l) }; past = refl };
-      values = record { said = λ w h. ne_eqb (cell area w) (mark_of stamp w) (λ e. omega (arith, old.older (variable_of w) (within_at_most variables w h), mark_least stamp w)) };
-      one_sign = refl;
-    }
 
 module _ (variables stamp : ℕ) (before area : List ℕ) (p : List ℤ) (w : ℤ) (inside : literal_within variables w ≡ true) (sf : SetFalse variables stamp before p area) where
   module _ (differs : cell area w ≡ mark_of stamp w → ⊥) where
@@ -150,7 +136,6 @@ module _ (variables stamp : ℕ) (before area : List ℕ) (p : List ℤ) (w : �
         let vs : Values variables stamp (negated w ∷ map negated p) (set area (variable_of w) (mark_of stamp (negated w))) =
         rw (variable_of_negated w) at (values_true variables stamp (negated w) area inside' room (map negated p) sf.values (rw (neg_ℤ-neg_ℤ w) not_true_yet)) in
         record {
-          long = length-set area (variable_of w) (mark_of stamp (negated w)) ∙ sf.long;
           marked = record { not_later = m.not_later; past = m.past ∙ sf.marked.past };
           values = rw (map-append negated p (w ∷ [])) (values_swap variables stamp (negated w) (map negated p) _ vs);
           one_sign = both_signs_more w p (within_at_least variables w inside) ∙ rw (sf.one_sign, not_true_yet) refl;
@@ -161,17 +146,22 @@ module _ (variables stamp : ℕ) (before area : List ℕ) (p : List ℤ) (w : �
       both_signs_more w p (within_at_least variables w inside)
       ∙ rw (← sf.values.said w inside, eq-eqb (cell area w) (mark_of stamp w) e) (or-true (both_signs p))
 
-module _ {variables stamp : ℕ} {clause : List ℤ} {before area : List ℕ} {i : ℕ} (t : LiteralAt variables clause i) (sf : SetFalse variables stamp before (take i clause) area) where
-  pub set_false_turn :
-      (cell area (literal_at clause i) ≡ mark_of stamp (literal_at clause i) → ⊥)
-      → SetFalse variables stamp before (take (i + 1) clause) (set area (variable_of (literal_at clause i)) (mark_of stamp (negated (literal_at clause i))))
-  set_false_turn differs = rw (take_more t) (set_false_more variables stamp before area (take i clause) (literal_at clause i) (within_at t) sf differs)
+-- The literal of a place, read back from its bits.
+module _ {variables stamp : ℕ} {clause : List ℤ} {before area : List ℕ} {i : ℕ} (t : LiteralAt variables clause i)
+    (sf : SetFalse variables stamp before (take i clause) area) (w-is : word (literal_at clause i) ≡ literal_at clause i)
+  where
+    abbrev w : ℤ
+    w = word (literal_at clause i)
 
-  pub set_false_stop : cell area (literal_at clause i) ≡ mark_of stamp (literal_at clause i) → both_signs clause ≡ true
-  set_false_stop e =
-      rw (← take-append-drop (i + 1) clause, take_more t)
-      (both_signs_longer (take i clause ++ (literal_at clause i ∷ [])) (drop (i + 1) clause)
-      (set_false_clash variables stamp before area (take i clause) (literal_at clause i) (within_at t) sf e))
+    pub set_false_turn : {v m : ℕ} → eqb (cell area w) (mark_of stamp w) ≡ false → v ≡ variable_of w → m ≡ mark_of stamp (negated w)
+        → SetFalse variables stamp before (take (i + 1) clause) (set area v m)
+    set_false_turn e v-is m-is =
+        rw (take_more t, v-is, m-is, w-is)
+        (set_false_more variables stamp before area (take i clause) (literal_at clause i) (within_at t) sf (eqb-false _ _ (rw w-is at e)))
 
-pub set_false_all : {variables stamp : ℕ} {before area : List ℕ} (clause : List ℤ) (i : ℕ) → SetFalse variables stamp before (take i clause) area → length clause ≤ i → SetFalse variables stamp before clause area
-set_false_all clause i sf l = rw (take_all i clause l) at sf
+    pub set_false_stop : eqb (cell area w) (mark_of stamp w) ≡ true → false ≡ not (both_signs clause)
+    set_false_stop e =
+        let clash = set_false_clash variables stamp before area (take i clause) (literal_at clause i) (within_at t) sf (eqb-true _ _ (rw w-is at e)) in
+        let both : both_signs clause ≡ true =
+        rw (← take-append-drop (i + 1) clause, take_more t) (both_signs_longer (take i clause ++ (literal_at clause i ∷ [])) (drop (i + 1) clause) clash) in
+        rw both

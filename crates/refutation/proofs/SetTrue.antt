@@ -1,8 +1,8 @@
 -- A literal set true in the area by numbers: what the area says of each literal after it. Assumes nothing.
-use mathlib.Core.Bool.{true, false, and-eq-true_iff}
+use mathlib.Core.Bool.{true, false}
 use mathlib.Core.Path.{◌≡◌, refl, sym, ap, subst}
 use mathlib.Core.Logic.{◌≢◌, ⊎_elim, ◌⊎◌, inl, inr}
-use mathlib.Core.List.{List, [], ◌∷◌}
+use mathlib.Core.List.{List, ◌∷◌}
 use Prim.Native.Nat.{ℕ, zero, suc, ◌+◌, ◌*◌, ◌<◌, ◌≤◌}
 use native.Mathlib.Nat.{not-suc-le-zero, suc_inj}
 use native.Mathlib.Decide.{ℕ_discrete}
@@ -15,7 +15,7 @@ use lib.Seq.{get_or-set_same, get_or-set_other, drop-set-lt}
 use Rattle.answers.proofs.Tests.{false_if_not_true}
 use Rattle.clauses.proofs.Satisfaction.{same_self, eq_if_same, variable_of_negated}
 use Rattle.clauses.specs.Clauses.{negated, variable_of, literal_within, same, among}
-use Rattle.refutation.specs.Work.{mark_of, cell, LiteralsWithin, Older, Values, Marked}
+use Rattle.refutation.specs.Work.{mark_of, cell, Older, Values, Marked}
 use Rattle.refutation.proofs.ClauseLiterals.{same_sym, other_sign, within_at_least, within_at_most}
 
 -- Two literals of one variable are one, or each the other's negation.
@@ -86,18 +86,3 @@ module _ (variables stamp : ℕ) (w : ℤ) (area : List ℕ) (inside : literal_w
         go x h (yes e) =
             ⊎_elim (λ q. subst Said (sym q) said_own) (λ q. subst Said (sym q) said_negated) (one_variable x w e (within_at_least variables w inside))
         go x h (no n) = said_other x h n
-
-module _ {variables stamp : ℕ} {area : List ℕ} (w : ℤ) (inside : LiteralsWithin variables (w ∷ [])) (old : Older variables (suc stamp) area) where
-  only_within : literal_within variables w ≡ true
-  only_within = ((and-eq-true_iff (literal_within variables w) true).0 inside).0
-
-  pub set_true_fits : variable_of w < length area
-  set_true_fits = fits_area variables stamp w area only_within old.room
-
-  pub set_true :
-      Marked variables stamp area (with_true stamp w area)
-      × ((trues : List ℤ) → Values variables stamp trues area → among w trues ≡ false → among (negated w) trues ≡ false → Values variables stamp (w ∷ trues) (with_true stamp w area))
-  set_true = (
-    marked_true variables stamp w area only_within old.room old,
-    λ trues vs h unset. values_true variables stamp w area only_within old.room trues vs unset,
-  )

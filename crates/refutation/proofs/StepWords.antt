@@ -110,17 +110,19 @@ first_step variables clauses ws e =
     }
 
 module _ {variables clauses : ℕ} {ws : List ℤ} {s at : ℕ} (p : StepAt variables clauses ws s at) where
-  pub no_step_left : length ws ≤ at → (s ≡ length (steps_of ws)) × (steps_of (drop at ws) ≡ [])
-  no_step_left h =
-      let none : steps_of (drop at ws) ≡ [] = rw (drop_of_length-le ws h) in
-      (omega (arith, ap length (p.rest ∙ none), length-drop s (steps_of ws), p.begun), none)
+  module _ (one_left : s < length (steps_of ws)) where
+    -- A step that is left has words.
+    begins : at < length ws
+    begins =
+        let none : length ws ≤ at → length (drop s (steps_of ws)) ≡ 0
+        = λ h. ap length (p.rest ∙ ap steps_of (drop_of_length-le ws h)) in
+        grind (arith, none, length-drop s (steps_of ws))
 
-  module _ (l : at < length ws) where
     abbrev from : ℕ
     from = past ws at
 
     clause_inside : at + length (clause_from ws at) < length ws
-    clause_inside = ended_inside ws at p.not_cut l
+    clause_inside = ended_inside ws at p.not_cut begins
 
     clause_right : LiteralsWithin variables (clause_from ws at) × (words_right variables hints (suc (clauses + s)) (drop from ws) ≡ true)
     clause_right =
@@ -150,9 +152,6 @@ module _ {variables clauses : ℕ} {ws : List ℤ} {s at : ℕ} (p : StepAt vari
 
     pub steps_here : steps_of (drop at ws) ≡ step_here ∷ steps_of (drop (past ws from) ws)
     steps_here = rw (clause_next ws at clause_inside, clause_next ws from hints_inside)
-
-    pub one_left : s < length (steps_of ws)
-    one_left = omega (arith, ap length (p.rest ∙ steps_here), length-drop s (steps_of ws))
 
     pub step_inside : (from ≤ length ws) × (past ws from ≤ length ws)
     step_inside = (omega (arith, from_below), omega (arith, hints_inside))

@@ -8,32 +8,31 @@ use lib.Dec.{eqb}
 use Rattle.answers.specs.Answers.{Answer, bad_refutation}
 use Rattle.clauses.specs.CnfWords.{clauses_of}
 use Rattle.clauses.specs.Refutations.{steps_of, numbers_area, clauses_area, area_after}
-use Rattle.refutation.specs.declared.RefutationAnswer.{RefutationAnswer}
-use Rattle.refutation.specs.declared.RefutationAnswer.TheVariants.{Yes, BadCnf, BadRefutation, AreaTooSmall, StepRefused, NotClosed}
-use Rattle.refutation.specs.declared.WordsCounted.{WordsCounted}
-use Rattle.refutation.specs.declared.WordsCounted.TheVariants.{Count, BadAt}
+use Rattle.std.specs.Prelude.{Result, Ok, Err}
+use Rattle.refutation.specs.declared.NotRefuted.{NotRefuted}
+use Rattle.refutation.specs.declared.NotRefuted.TheVariants.{BadCnf, BadRefutation, AreaTooSmall, StepRefused, NotClosed}
 use Rattle.refutation.specs.Promise.{answer_of, counted_answer, StepsCounted, Judged}
 
 -- The variant of an answer's number and place.
-abbrev variant_of : Answer → RefutationAnswer
+abbrev variant_of : Answer → Result Unit NotRefuted
 variant_of a =
-    cond (eqb a.number 16) (BadCnf a.place)
-    (cond (eqb a.number 11) (BadRefutation a.place)
-    (cond (eqb a.number 12) (AreaTooSmall a.place)
-    (cond (eqb a.number 13) (StepRefused a.place) (cond (eqb a.number 14) (NotClosed a.place) Yes))))
+    cond (eqb a.number 16) (Err (BadCnf a.place))
+    (cond (eqb a.number 11) (Err (BadRefutation a.place))
+    (cond (eqb a.number 12) (Err (AreaTooSmall a.place))
+    (cond (eqb a.number 13) (Err (StepRefused a.place)) (cond (eqb a.number 14) (Err (NotClosed a.place)) (Ok tt)))))
 
-answered_back : (r : RefutationAnswer) → variant_of (answer_of r) ≡ r
-answered_back Yes = refl
-answered_back (BadCnf i) = refl
-answered_back (BadRefutation i) = refl
-answered_back (AreaTooSmall n) = refl
-answered_back (StepRefused i) = refl
-answered_back (NotClosed n) = refl
+answered_back : (r : Result Unit NotRefuted) → variant_of (answer_of r) ≡ r
+answered_back (Ok tt) = refl
+answered_back (Err (BadCnf i)) = refl
+answered_back (Err (BadRefutation i)) = refl
+answered_back (Err (AreaTooSmall n)) = refl
+answered_back (Err (StepRefused i)) = refl
+answered_back (Err (NotClosed n)) = refl
 
-pub same_answer : (r r' : RefutationAnswer) → answer_of r ≡ answer_of r' → r ≡ r'
+pub same_answer : (r r' : Result Unit NotRefuted) → answer_of r ≡ answer_of r' → r ≡ r'
 same_answer r r' e = sym (answered_back r) ∙ ap variant_of e ∙ answered_back r'
 
-module _ {variables : ℕ} {cnf refutation : List ℤ} {numbers clauses : List ℕ} {r r' : RefutationAnswer} {n n' c c' : List ℕ} where
+module _ {variables : ℕ} {cnf refutation : List ℤ} {numbers clauses : List ℕ} {r r' : Result Unit NotRefuted} {n n' c c' : List ℕ} where
   pub judged_unique : Judged variables cnf refutation numbers clauses r n c → Judged variables cnf refutation numbers clauses r' n' c'
       → (r ≡ r') × (n ≡ n') × (c ≡ c')
   judged_unique p q =
@@ -45,13 +44,13 @@ module _ {variables : ℕ} {cnf refutation : List ℤ} {numbers clauses : List �
             ∙ sym q.clauses_left,
       )
 
-abbrev count_of : Answer → WordsCounted
-count_of a = cond (eqb a.number 0) (Count a.place) (BadAt a.place)
+abbrev count_of : Answer → Result ℕ ℕ
+count_of a = cond (eqb a.number 0) (Ok a.place) (Err a.place)
 
-counted_back : (r : WordsCounted) → count_of (counted_answer bad_refutation r) ≡ r
-counted_back (Count n) = refl
-counted_back (BadAt i) = refl
+counted_back : (r : Result ℕ ℕ) → count_of (counted_answer bad_refutation r) ≡ r
+counted_back (Ok n) = refl
+counted_back (Err i) = refl
 
-pub counted_unique : (variables clauses : ℕ) (refutation : List ℤ) (r r' : WordsCounted)
+pub counted_unique : (variables clauses : ℕ) (refutation : List ℤ) (r r' : Result ℕ ℕ)
     → StepsCounted variables clauses refutation r → StepsCounted variables clauses refutation r' → r ≡ r'
 counted_unique variables clauses refutation r r' p q = sym (counted_back r) ∙ ap count_of (p ∙ sym q) ∙ counted_back r'

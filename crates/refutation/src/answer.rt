@@ -1,33 +1,32 @@
 // Document 01's number and place of each answer.
 ghost use Rattle.std.specs.Prelude.{◌≡◌};
-ghost use Rattle.refutation.specs.Promise.{answer_of};
+ghost use Rattle.answers.specs.Table.{row_of};
+ghost use Rattle.refutation.specs.Promise.{answer_of, refusal_answer};
 
-use crate::RefutationAnswer;
+use crate::NotRefuted;
+use answers::answer::Answer;
 
-// The number of an answer in the table; 0 is yes.
-pub fn number(a: RefutationAnswer) -> u32
-    ensures { result ≡ (answer_of a).number }
-{
-    match a {
-        RefutationAnswer::Yes => 0,
-        RefutationAnswer::BadRefutation(_) => 11,
-        RefutationAnswer::AreaTooSmall(_) => 12,
-        RefutationAnswer::StepRefused(_) => 13,
-        RefutationAnswer::NotClosed(_) => 14,
-        RefutationAnswer::BadCnf(_) => 16,
+// The place of a refusal is a word, a length, the words needed, a step or the steps.
+impl From<NotRefuted> for Answer {
+    ghost from_gives = { λ f a. row_of a ≡ refusal_answer f };
+
+    fn from(f: NotRefuted) -> Answer {
+        match f {
+            NotRefuted::BadRefutation(i) => Answer::new(11, i),
+            NotRefuted::AreaTooSmall(n) => Answer::new(12, n),
+            NotRefuted::StepRefused(i) => Answer::new(13, i),
+            NotRefuted::NotClosed(n) => Answer::new(14, n),
+            NotRefuted::BadCnf(i) => Answer::new(16, i),
+        }
     }
 }
 
-// The place of an answer: a word, a length, the words needed, a step or the steps; of yes it is 0.
-pub fn place(a: RefutationAnswer) -> usize
-    ensures { result ≡ (answer_of a).place }
+// The row of what judging answers.
+pub fn answer(r: Result<(), NotRefuted>) -> Answer
+    ensures { row_of result ≡ answer_of r }
 {
-    match a {
-        RefutationAnswer::Yes => 0,
-        RefutationAnswer::BadRefutation(i) => i,
-        RefutationAnswer::AreaTooSmall(n) => n,
-        RefutationAnswer::StepRefused(i) => i,
-        RefutationAnswer::NotClosed(n) => n,
-        RefutationAnswer::BadCnf(i) => i,
+    match r {
+        Ok(()) => Answer::new(0, 0),
+        Err(f) => Answer::from(f),
     }
 }

@@ -8,20 +8,12 @@ mod steps;
 mod values;
 pub mod words;
 
-// Document 01's answers to a refutation of a bare CNF; `answer` gives the number and the place of each.
-#[derive(Clone, Copy)]
-pub enum RefutationAnswer {
-    Yes,
+// Document 01's refusals of a refutation of a bare CNF; `answer` gives the number and the place of each.
+#[derive(Clone, Copy, Debug, PartialEq, Eq)]
+pub enum NotRefuted {
     BadCnf(usize),
     BadRefutation(usize),
     AreaTooSmall(usize),
     StepRefused(usize),
     NotClosed(usize),
-}
-
-// Words that were checked: how many clauses or steps they are, or the place of the refusal.
-#[derive(Clone, Copy)]
-pub enum WordsCounted {
-    Count(usize),
-    BadAt(usize),
 }

@@ -1,21 +1,36 @@
 // Where each clause begins, by its number, and the lookup of a clause.
-ghost use Rattle.std.specs.Prelude.{◌≡◌, true, ◌+◌, ◌-◌, ◌<◌, ◌≤◌, length, get_or, drop};
-ghost use Rattle.clauses.specs.CnfWords.{clauses_of, ended};
-ghost use Rattle.refutation.specs.Work.{clause_from, Places};
+ghost use Rattle.std.specs.Prelude.{◌≡◌, true, [], ◌+◌, ◌-◌, ◌≤◌, length, get_or};
+ghost use Rattle.std.specs.List.{position};
+ghost use Rattle.clauses.specs.CnfWords.{clauses_of, ended, is_0};
+ghost use Rattle.clauses.specs.Refutations.{steps_of};
+ghost use Rattle.refutation.specs.Work.{clause_from, Places, CnfRight, StepsRight, Standing};
 
-// The place of the 0 that ends the clause which begins at `from`, or the length where there is none.
-pub(crate) fn clause_end(words: &[i32], from: usize) -> usize
-    requires { from ≤ length words.now }
-    ensures { (result ≡ from + length (clause_from words.now from)) × (result ≤ length words.now) }
+// The words that 16 and 11 pass, and how many clauses and steps they are.
+#[derive(Clone, Copy)]
+pub(crate) struct Counted<'a> {
+    pub(crate) variables: usize,
+    pub(crate) cnf: &'a [i32],
+    pub(crate) clauses: usize,
+    pub(crate) refutation: &'a [i32],
+    pub(crate) steps: usize,
+    ghost cnf_right: { CnfRight variables cnf.now × (clauses ≡ length (clauses_of cnf.now)) },
+    ghost steps_right: { StepsRight variables clauses refutation.now × (steps ≡ length (steps_of refutation.now)) },
+}
+
+// The clauses that a step's hints can name: those of the CNF, and of the `done` steps before it, by the places where they begin.
+#[derive(Clone, Copy)]
+pub(crate) struct Known<'a> {
+    pub(crate) words: Counted<'a>,
+    pub(crate) done: usize,
+    pub(crate) places: &'a [u64],
+    ghost standing: { Standing words.variables words.cnf.now words.refutation.now words.clauses done places.now },
+}
+
+// Where the first 0 stands.
+fn first_0(words: &[i32]) -> Option<usize>
+    ensures { result ≡ position is_0 words.now }
 {
-    let mut i = from;
-    while i < words.len() {
-        if words[i] == 0 {
-            return i;
-        }
-        i += 1;
-    }
-    i
+    words.iter().position(|w| *w == 0)
 }
 
 // The clause that begins at `from`, as a part of the words.
@@ -23,44 +38,38 @@ pub(crate) fn clause_at(words: &[i32], from: usize) -> &[i32]
     requires { from ≤ length words.now }
     ensures { result.now ≡ clause_from words.now from }
 {
-    let end = clause_end(words, from);
-    &words[from..end]
+    let rest = &words[from..];
+    match first_0(rest) {
+        Some(n) => &rest[..n],
+        None => rest,
+    }
 }
 
-// The clause of a number: its part of the CNF, or of the refutation itself.
-pub(crate) fn lookup<'a>(
-    cnf: &'a [i32],
-    refutation: &'a [i32],
-    clauses: usize,
-    number: usize,
-    area: &[u64],
-) -> &'a [i32]
-    requires known { (1 ≤ number) × (number ≤ length area.now) }
-    requires in_cnf { number ≤ clauses → get_or area.now (number - 1) 0 ≤ length cnf.now }
-    requires in_refutation { clauses < number → get_or area.now (number - 1) 0 ≤ length refutation.now }
-    ensures of_cnf { number ≤ clauses → result.now ≡ clause_from cnf.now (get_or area.now (number - 1) 0) }
-    ensures of_refutation { clauses < number → result.now ≡ clause_from refutation.now (get_or area.now (number - 1) 0) }
-{
-    let from = area[number - 1] as usize;
-    if number <= clauses {
-        clause_at(cnf, from)
-    } else {
-        clause_at(refutation, from)
+impl<'a> Known<'a> {
+    ghost use Rattle.refutation.specs.Named.{named};
+
+    // The clause of a number: its part of the CNF, or of the refutation itself.
+    pub(crate) fn clause(&self, number: usize) -> &'a [i32]
+        requires { (1 ≤ number) × (number ≤ self.now.words.clauses + self.now.done) }
+        ensures { result.now ≡ get_or (named self.now) (number - 1) [] }
+    {
+        let from = self.places[number - 1] as usize;
+        if number <= self.words.clauses {
+            clause_at(self.words.cnf, from)
+        } else {
+            clause_at(self.words.refutation, from)
+        }
     }
 }
 
 // Writes down where each clause of the CNF begins.
 pub(crate) fn place_cnf(cnf: &[i32], area: &mut [u64])
-    requires { (ended cnf.now ≡ true) × (length (clauses_of cnf.now) ≤ length area.old) }
-    ensures placed { Places cnf.now 0 (clauses_of cnf.now) area.new }
-    ensures past { drop (length (clauses_of cnf.now)) area.new ≡ drop (length (clauses_of cnf.now)) area.old }
-    ensures sized { length area.new ≡ length area.old }
+    requires { (ended cnf.now ≡ true) × (length area.old ≡ length (clauses_of cnf.now)) }
+    ensures { Places cnf.now 0 (clauses_of cnf.now) area.new }
 {
-    let mut i = 0;
-    let mut n = 0;
-    while i < cnf.len() {
-        area[n] = i as u64;
-        i = clause_end(cnf, i) + 1;
-        n += 1;
+    let mut at = 0;
+    for place in area {
+        *place = at as u64;
+        at += clause_at(cnf, at).len() + 1;
     }
 }

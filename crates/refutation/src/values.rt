@@ -1,119 +1,99 @@
 // The values of variables while one step is judged. A value is a stamp of its step with a sign, so that nothing is cleared between steps.
-ghost use Rattle.std.specs.Prelude.{◌≡◌, true, false, not, List, [], ◌∷◌, map, ◌<◌, ◌≤◌, suc, length, replicate, eqb, ℤ};
+ghost use Rattle.std.specs.Prelude.{◌≡◌, true, false, not, cond, List, [], ◌∷◌, map, ◌<◌, ◌≤◌, suc, length, replicate, eqb, ℤ};
 ghost use Rattle.answers.specs.Lists.{written};
-ghost use Rattle.clauses.specs.Clauses.{negated, variable_of, among};
+ghost use Rattle.clauses.specs.Clauses.{negated, variable_of, literal_within, among};
 ghost use Rattle.clauses.specs.Refutations.{both_signs, outcome};
 ghost use Rattle.refutation.specs.Work.{stamps_limit, mark_of, cell, LiteralsWithin, Older, Values, Marked, outcome_found};
 
 use clauses::literals::variable;
 
 // What a hint's clause gives under the values so far.
-#[derive(Clone, Copy)]
+#[derive(Clone, Copy, Debug, PartialEq, Eq)]
 pub(crate) enum Found {
     Conflict,
     Unit(i32),
     Neither,
 }
 
-// What the word of the literal's variable holds where the literal is true at the stamp.
-fn mark(stamp: u64, w: i32) -> u64
-    requires { stamp < stamps_limit }
-    ensures { result ≡ mark_of stamp w }
-{
-    if w < 0 { 2 * stamp } else { 2 * stamp + 1 }
+// The step whose values stand in an area: its stamp, over so many variables.
+#[derive(Clone, Copy)]
+pub(crate) struct Stamp {
+    variables: usize,
+    stamp: u64,
+    ghost small: { stamp < stamps_limit },
 }
 
-// What the word of the literal's variable holds where the literal is false at the stamp. The least i32 is never negated.
-fn mark_false(stamp: u64, w: i32) -> u64
-    requires { stamp < stamps_limit }
-    ensures { result ≡ mark_of stamp (negated w) }
-{
-    if 0 < w { 2 * stamp } else { 2 * stamp + 1 }
-}
-
-// Clears the first words of an area.
-pub(crate) fn clear(area: &mut [u64], needed: usize)
-    requires { needed ≤ length area.old }
-    ensures { area.new ≡ written (replicate needed 0) area.old }
-{
-    let mut i = 0;
-    while i < needed {
-        area[i] = 0;
-        i += 1;
-    }
-}
-
-// Sets the literals of a step's clause false; no where a variable has both signs.
-pub(crate) fn set_false(variables: usize, stamp: u64, clause: &[i32], area: &mut [u64]) -> bool
-    requires { (stamp < stamps_limit) × LiteralsWithin variables clause.now × Older variables stamp area.old }
-    ensures answer { result ≡ not (both_signs clause.now) }
-    ensures marked { Marked variables stamp area.old area.new }
-    ensures values { result ≡ true → Values variables stamp (map negated clause.now) area.new }
-{
-    let mut i = 0;
-    while i < clause.len() {
-        let w = clause[i];
-        let v = variable(w);
-        if area[v] == mark(stamp, w) {
-            return false;
+impl Stamp {
+    // The stamp of the step that comes after so many: never 0, which is what a cleared word holds.
+    pub(crate) fn after(variables: usize, done: usize) -> Stamp
+        requires { suc done < stamps_limit }
+        ensures { (result.variables ≡ variables) × (result.stamp ≡ suc done) }
+    {
+        Stamp {
+            variables,
+            stamp: done as u64 + 1,
         }
-        area[v] = mark_false(stamp, w);
-        i += 1;
     }
-    true
-}
 
-// Whether the literal is true at the stamp.
-fn is_true(stamp: u64, w: i32, area: &[u64]) -> bool
-    requires { (stamp < stamps_limit) × (variable_of w < length area.now) }
-    ensures { result ≡ eqb (cell area.now w) (mark_of stamp w) }
-{
-    area[variable(w)] == mark(stamp, w)
-}
+    // What the word of the literal's variable holds where the literal has the value. The least i32 is never negated.
+    fn mark(self, w: i32, value: bool) -> u64
+        requires { literal_within self.variables w ≡ true }
+        ensures { result ≡ mark_of self.stamp (cond value w (negated w)) }
+    {
+        2 * self.stamp + u64::from((0 < w) == value)
+    }
 
-// Whether the literal is false at the stamp.
-fn is_false(stamp: u64, w: i32, area: &[u64]) -> bool
-    requires { (stamp < stamps_limit) × (variable_of w < length area.now) }
-    ensures { result ≡ eqb (cell area.now w) (mark_of stamp (negated w)) }
-{
-    area[variable(w)] == mark_false(stamp, w)
-}
+    // Whether the literal has the value.
+    fn says(self, w: i32, value: bool, area: &[u64]) -> bool
+        requires { (literal_within self.variables w ≡ true) × (self.variables < length area.now) }
+        ensures { result ≡ eqb (cell area.now w) (mark_of self.stamp (cond value w (negated w))) }
+    {
+        area[variable(w)] == self.mark(w, value)
+    }
 
-// What a clause gives under the values of a stamp.
-pub(crate) fn find(variables: usize, stamp: u64, clause: &[i32], area: &[u64]) -> Found
-    requires { (stamp < stamps_limit) × LiteralsWithin variables clause.now × (variables < length area.now) }
-    ensures { (trues : List ℤ) → Values variables stamp trues area.now → outcome_found result ≡ outcome trues clause.now }
-{
-    let mut unit: i32 = 0;
-    let mut i = 0;
-    while i < clause.len() {
-        let w = clause[i];
-        if !is_false(stamp, w, area) {
-            if is_true(stamp, w, area) {
+    // Sets the literals of a step's clause false; no where a variable has both signs.
+    pub(crate) fn set_false(self, clause: &[i32], area: &mut [u64]) -> bool
+        requires { LiteralsWithin self.variables clause.now × Older self.variables self.stamp area.old }
+        ensures answer { result ≡ not (both_signs clause.now) }
+        ensures marked { Marked self.variables self.stamp area.old area.new }
+        ensures values { result ≡ true → Values self.variables self.stamp (map negated clause.now) area.new }
+    {
+        for w in clause {
+            if self.says(*w, true, area) {
+                return false;
+            }
+            area[variable(*w)] = self.mark(*w, false);
+        }
+        true
+    }
+
+    // What a clause gives under the values.
+    pub(crate) fn find(self, clause: &[i32], area: &[u64]) -> Found
+        requires { LiteralsWithin self.variables clause.now × (self.variables < length area.now) }
+        ensures { (trues : List ℤ) → Values self.variables self.stamp trues area.now → outcome_found result ≡ outcome trues clause.now }
+    {
+        let mut unit = None;
+        for w in clause {
+            if self.says(*w, false, area) {
+                continue;
+            }
+            if self.says(*w, true, area) || unit.unwrap_or(*w) != *w {
                 return Found::Neither;
             }
-            if unit != 0 {
-                if unit != w {
-                    return Found::Neither;
-                }
-            }
-            unit = w;
+            unit = Some(*w);
         }
-        i += 1;
+        match unit {
+            None => Found::Conflict,
+            Some(w) => Found::Unit(w),
+        }
     }
-    if unit == 0 {
-        Found::Conflict
-    } else {
-        Found::Unit(unit)
-    }
-}
 
-// Sets a literal true that has no value yet.
-pub(crate) fn set_true(variables: usize, stamp: u64, w: i32, area: &mut [u64])
-    requires { (stamp < stamps_limit) × LiteralsWithin variables (w ∷ []) × Older variables (suc stamp) area.old }
-    ensures marked { Marked variables stamp area.old area.new }
-    ensures values { (trues : List ℤ) → Values variables stamp trues area.old → among w trues ≡ false → among (negated w) trues ≡ false → Values variables stamp (w ∷ trues) area.new }
-{
-    let v = variable(w);
-    area[v] = mark(stamp, w);
+    // Sets a literal true that has no value yet.
+    pub(crate) fn set_true(self, w: i32, area: &mut [u64])
+        requires { LiteralsWithin self.variables (w ∷ []) × Older self.variables (suc self.stamp) area.old }
+        ensures marked { Marked self.variables self.stamp area.old area.new }
+        ensures values { (trues : List ℤ) → Values self.variables self.stamp trues area.old → among w trues ≡ false → among (negated w) trues ≡ false → Values self.variables self.stamp (w ∷ trues) area.new }
+    {
+        area[variable(w)] = self.mark(w, true);
+    }
 }

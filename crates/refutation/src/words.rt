@@ -5,52 +5,34 @@ ghost use Rattle.clauses.specs.CnfWords.{is_0};
 ghost use Rattle.clauses.specs.Refutations.{earlier};
 ghost use Rattle.refutation.specs.Promise.{CnfCounted, StepsCounted};
 
-use crate::WordsCounted;
 use answers::limits::VARIABLES_LIMIT;
 use clauses::literals::variable;
 
 // 16: V, then the words in order, then cut short; else the number of clauses.
-pub(crate) fn count_clauses(variables: u32, cnf: &[i32]) -> WordsCounted
+pub(crate) fn count_clauses(variables: u32, cnf: &[i32]) -> Result<usize, usize>
     ensures { CnfCounted variables cnf.now result }
 {
     if VARIABLES_LIMIT < variables {
-        return WordsCounted::BadAt(0);
+        return Err(0);
     }
     let limit = variables as usize;
     let mut clauses = 0;
     let mut open = false;
-    let mut i = 0;
-    while i < cnf.len() {
-        let w = cnf[i];
-        if limit < variable(w) {
-            return WordsCounted::BadAt(i);
+    for (i, w) in cnf.iter().enumerate() {
+        if limit < variable(*w) {
+            return Err(i);
         }
-        if w == 0 {
-            clauses += 1;
-            open = false;
-        } else {
-            open = true;
-        }
-        i += 1;
+        open = *w != 0;
+        clauses += usize::from(!open);
     }
-    if open {
-        return WordsCounted::BadAt(i);
-    }
-    WordsCounted::Count(clauses)
+    if open { Err(cnf.len()) } else { Ok(clauses) }
 }
 
 // A hint is an earlier clause: at least 1, and at most the clauses and the steps before its own.
 fn names_earlier(clauses: usize, steps: usize, hint: i32) -> bool
     ensures { result ≡ earlier (suc (clauses + steps)) hint }
 {
-    if hint <= 0 {
-        return false;
-    }
-    let number = hint as usize;
-    if number <= clauses {
-        return true;
-    }
-    number - clauses <= steps
+    0 < hint && (hint as usize).saturating_sub(clauses) <= steps
 }
 
 // A literal is at most V in size; a hint is an earlier clause.
@@ -58,41 +40,33 @@ fn word_right(limit: usize, clauses: usize, steps: usize, hinting: bool, w: i32)
     ensures { result ≡ cond hinting (is_0 w || earlier (suc (clauses + steps)) w) (leb (size w) limit) }
 {
     if hinting {
-        if w == 0 {
-            return true;
-        }
-        return names_earlier(clauses, steps, w);
+        w == 0 || names_earlier(clauses, steps, w)
+    } else {
+        variable(w) <= limit
     }
-    variable(w) <= limit
 }
 
 // 11: the first bad word, then cut short; else the number of steps.
-pub fn count_steps(variables: u32, clauses: usize, refutation: &[i32]) -> WordsCounted
+pub fn count_steps(variables: u32, clauses: usize, refutation: &[i32]) -> Result<usize, usize>
     ensures { StepsCounted variables clauses refutation.now result }
 {
     let limit = variables as usize;
     let mut steps = 0;
     let mut hints = false;
     let mut open = false;
-    let mut i = 0;
-    while i < refutation.len() {
-        let w = refutation[i];
-        if !word_right(limit, clauses, steps, hints, w) {
-            return WordsCounted::BadAt(i);
+    for (i, w) in refutation.iter().enumerate() {
+        if !word_right(limit, clauses, steps, hints, *w) {
+            return Err(i);
         }
-        if w == 0 {
-            if hints {
-                steps += 1;
-            }
+        if *w == 0 {
+            steps += usize::from(hints);
             hints = !hints;
-            open = hints;
-        } else {
-            open = true;
         }
-        i += 1;
+        open = hints || *w != 0;
     }
     if open {
-        return WordsCounted::BadAt(i);
+        Err(refutation.len())
+    } else {
+        Ok(steps)
     }
-    WordsCounted::Count(steps)
 }

@@ -1,27 +1,17 @@
 -- Laws of a lent buffer of which a part is written, and of the promise `Puts`. Assumes nothing.
 use mathlib.Core.Path.{◌≡◌, refl, sym, ◌∙◌, ap}
-use mathlib.Core.Bool.{true, false}
+use mathlib.Core.Bool.{true}
 use mathlib.Core.List.{List, [], ◌∷◌, ◌++◌}
-use Prim.Native.Nat.{ℕ, suc, ◌+◌, ◌*◌, ◌^◌, ◌≤◌, ◌<◌, min}
+use Prim.Native.Nat.{ℕ, ◌+◌, ◌*◌, ◌^◌, ◌≤◌, ◌<◌, min}
 use native.Mathlib.Nat.{add-zero}
 use native.Mathlib.Numerals.{add-one}
 use native.Mathlib.Omega.{arith}
-use borrow.Author.Tests.{le-leb, lt-leb}
+use borrow.Author.Tests.{le-leb}
 use lib.Dec.{leb}
-use lib.ListN.{length, get_or, take, drop, set, length-append, take-append-drop, length-drop, length-set}
-use lib.Seq.{take-suc, length-take-le, drop-cons, drop-drop, take-set-le, drop-set-add, get_or-set_same, drop-set-lt, set-append_seam, append_snoc}
-use Rattle.answers.specs.Lists.{written}
+use lib.ListN.{length, get_or, take, set, length-append, take-append-drop}
+use lib.Seq.{take-suc, length-take-le, drop-drop}
 use Rattle.answers.proofs.PutAt.{put_at, put_at_one, put_at_length, put_at_then}
 use Rattle.text.specs.Promise.{placed, largest_size, Puts}
-
--- ════════ From the start ════════
-
--- One element more.
-pub written_more : (s : List ℕ) (x : ℕ) (o : List ℕ) → length s < length o
-    → set (written s o) (length s) x ≡ written (s ++ (x ∷ [])) o
-written_more s x o h =
-    let e : length (s ++ (x ∷ [])) ≡ suc (length s) = rw length-append (omega arith) in
-    rw (drop-cons o (length s) 0 h, set-append_seam, e, append_snoc)
 
 -- ════════ From a place on ════════
 
@@ -30,12 +20,6 @@ placed_is t at o = rw (drop-drop (length t) at o)
 
 pub placed_one : (b at : ℕ) (o : List ℕ) → at < length o → set o at b ≡ placed (b ∷ []) at o
 placed_one b at o h = put_at_one b at o h ∙ sym (placed_is (b ∷ []) at o)
-
-drop_from_set : (o : List ℕ) (i b : ℕ) → i < length o → drop i (set o i b) ≡ b ∷ drop (suc i) o
-drop_from_set o i b h =
-    let inside : i < length (set o i b) = rw length-set h in
-    let next : i < suc i = omega arith in
-    rw (drop-cons (set o i b) i 0 inside, get_or-set_same o i b 0 h, drop-set-lt (suc i) o i b next)
 
 module _ (at : ℕ) (o : List ℕ) where
   pub length_placed : (t : List ℕ) → at + length t ≤ length o → length (placed t at o) ≡ length o
@@ -48,14 +32,6 @@ module _ (at : ℕ) (o : List ℕ) where
       ∙ ap (put_at t (at + length s)) (placed_is s at o)
       ∙ put_at_then s at o h t
       ∙ sym (placed_is (s ++ t) at o)
-
-  -- A last byte that was set first.
-  pub placed_last : (t : List ℕ) (b : ℕ) → at + length t < length o → placed t at (set o (at + length t) b) ≡ placed (t ++ (b ∷ [])) at o
-  placed_last t b h =
-      let before : at ≤ at + length t = omega arith in
-      let inside : length t < length (drop at o) = rw length-drop (omega arith) in
-      let e : length (t ++ (b ∷ [])) ≡ suc (length t) = rw length-append (omega arith) in
-      rw (take-set-le at o (at + length t) b before, drop-set-add at o (length t) b, drop_from_set (drop at o) (length t) b inside, e, append_snoc)
 
 -- ════════ One text after another ════════
 
@@ -121,24 +97,8 @@ module _ (t : List ℕ) (at : ℕ) (o : List ℕ) {n : ℕ} (e : n ≡ min (at +
       let fits : leb (at + length t) (length o) ≡ true = le-leb _ _ h in
       record { after = e; held = rw fits held }
 
-  pub puts_nothing : length o < at + length t → Puts t at o n o
-  puts_nothing h =
-      let long : leb (at + length t) (length o) ≡ false = lt-leb _ _ h in
-      record { after = e; held = rw long }
-
-  -- No buffer is as long as the largest size.
-  module _ (small : length o * 1 < 2 ^ 63) where
-    pub fits_by : n ≤ length o → at + length t ≤ length o
-    unfolding largest_size
-    fits_by h = omega arith
-
-    pub exact : n ≤ length o → n ≡ at + length t
-    unfolding largest_size
-    exact h = omega arith
-
 pub put_there : {t : List ℕ} {at : ℕ} {o : List ℕ} {n : ℕ} {p : List ℕ} → at + length t ≤ length o → length o * 1 < 2 ^ 63
     → Puts t at o n p → Put t at o n p
-unfolding largest_size
 put_there {t} {at} {o} {n} {p} h small a =
     let fits : leb (at + length t) (length o) ≡ true = le-leb _ _ h in
     record { after = omega (arith, a.after); held = rw fits at a.held }

@@ -1,13 +1,16 @@
 -- Laws of decimal digits. Assumes nothing.
 use mathlib.Core.Path.{◌≡◌, refl, sym, ◌∙◌, ap}
-use mathlib.Core.Bool.{Bool, true, false, cond}
+use mathlib.Core.Bool.{Bool, true, false}
 use mathlib.Core.List.{List, [], ◌∷◌, ◌++◌}
-use Prim.Native.Nat.{ℕ, zero, suc, ◌+◌, ◌/◌, ◌%◌, ◌^◌, ◌≤◌, ◌<◌}
-use native.Mathlib.Nat.{pow-suc}
+use Prim.Native.Nat.{ℕ, zero, suc, ◌+◌, ◌*◌, ◌/◌, ◌%◌, ◌^◌, ◌≤◌, ◌<◌}
+use native.Mathlib.Nat.{pow-suc, one-le-pow}
 use native.Mathlib.Omega.{arith}
 use borrow.Author.Tests.{lt-ltb, le-ltb, ltb-true, ltb-false, leb-true, leb-false}
 use lib.Dec.{leb, ltb}
 use lib.ListN.{length, length-append}
+use Rattle.std.proofs.Common.{⊎_elim}
+use Rattle.std.proofs.lemmas.Bool.{cases_lt}
+use Rattle.std.specs.Int.{from_bool}
 use Rattle.text.specs.Numbers.{digit, digits_within, decimal}
 
 -- ════════ By the last digit ════════
@@ -54,11 +57,20 @@ length_one n h = rw (decimal_one n h)
 pub length_more : (n : ℕ) → 10 ≤ n → length (decimal n) ≡ length (decimal (n / 10)) + 1
 length_more n h = rw (decimal_more n h, length-append)
 
+pub some_digit : (n : ℕ) → 0 < length (decimal n)
+some_digit n = ⊎_elim (λ l. omega (arith, length_one n l)) (λ l. omega (arith, length_more n l)) (cases_lt n 10)
+
+pub digit_if_one : (n : ℕ) → length (decimal n) ≤ 1 → n < 10
+digit_if_one n h = ⊎_elim (λ l. l) (λ l. absurd (omega (arith, length_more n l, some_digit (n / 10)))) (cases_lt n 10)
+
+pub large_if_more : (n : ℕ) → 1 < length (decimal n) → 10 ≤ n
+large_if_more n h = ⊎_elim (λ l. absurd (omega (arith, length_one n l))) (λ l. l) (cases_lt n 10)
+
 -- Below 10,000 by three tests.
-pub length_few : (n : ℕ) → n < 10_000 → length (decimal n) ≡ 1 + cond (leb 10 n) 1 0 + cond (leb 100 n) 1 0 + cond (leb 1_000 n) 1 0
+pub length_few : (n : ℕ) → n < 10_000 → length (decimal n) ≡ 1 + from_bool (leb 10 n) + from_bool (leb 100 n) + from_bool (leb 1_000 n)
 length_few n h = go (leb 10 n) (leb 100 n) (leb 1_000 n) refl refl refl
   where
-    go : (a b c : Bool) → leb 10 n ≡ a → leb 100 n ≡ b → leb 1_000 n ≡ c → length (decimal n) ≡ 1 + cond a 1 0 + cond b 1 0 + cond c 1 0
+    go : (a b c : Bool) → leb 10 n ≡ a → leb 100 n ≡ b → leb 1_000 n ≡ c → length (decimal n) ≡ 1 + from_bool a + from_bool b + from_bool c
     go true true true e f g =
         let l = leb-true 1_000 n g in
         omega (arith, length_more n (omega arith), length_more (n / 10) (omega arith), length_more (n / 10 / 10) (omega arith), length_one (n / 10 / 10 / 10) (omega arith))
@@ -83,6 +95,10 @@ length_within (suc k) n h = go (ltb n 10) refl (length_within k (n / 10) (omega 
     go true e below = omega (arith, length_one n (ltb-true n 10 e))
     go false e below = omega (arith, length_more n (ltb-false n 10 e))
 
--- A number of 64 bits has at most 20 digits.
-pub length_64_bits : (n : ℕ) → n < 2 ^ 64 → length (decimal n) ≤ 20
-length_64_bits n h = length_within 19 n (omega arith)
+-- By the power of ten below it.
+pub length_by_power : (k n : ℕ) → 10 ^ k ≤ n → n < 10 * 10 ^ k → length (decimal n) ≡ k + 1
+length_by_power zero n l h = omega (arith, length_one n (omega arith))
+length_by_power (suc k) n l h =
+    let power = pow-suc 10 k in
+    let some : 1 ≤ 10 ^ k = one-le-pow k 10 (omega arith) in
+    omega (arith, length_more n (omega arith), length_by_power k (n / 10) (omega arith) (omega arith))

@@ -39,7 +39,7 @@ abbrev pub placed : List ℕ → ℕ → List ℕ → List ℕ
 placed text at old = take at old ++ written text (drop at old)
 
 -- The largest number of a `usize`: a place past it is said to be there.
-unfoldable pub largest_size : ℕ
+abbrev pub largest_size : ℕ
 largest_size = 2 ^ 64 - 1
 
 -- The place after the text; where it fits it is put, else nothing changes.

@@ -5,7 +5,7 @@ ghost use Rattle.text.specs.Promise.{state_after, WordAt};
 
 use answers::limits::LARGEST_NUMBER;
 
-// The states of a word: no byte yet; one more than the number that it is; no number.
+// The states of a word: no byte yet; one more than the number that it is; no number. No enum, so that one test tells for most bytes.
 pub const NO_BYTE: u64 = 0;
 
 pub const NO_NUMBER: u64 = LARGEST_NUMBER + 2;
@@ -28,27 +28,20 @@ pub fn is_parting(byte: u8) -> bool
     ensures { result ≡ parts byte }
 {
     // Digits come first, since most bytes of a number are.
-    if (b'0' <= byte) & (byte <= b'9') {
+    if byte.is_ascii_digit() {
         return false;
     }
     (byte == b' ') | (byte == b'\n')
-}
-
-// A byte as a number. It fits by its type.
-fn wide(byte: u8) -> u64
-    ensures { result ≡ byte }
-{
-    byte as u64
 }
 
 // The state after one more byte, with every test.
 fn tested_after(state: u64, byte: u8) -> u64
     ensures { result ≡ state_after state byte }
 {
-    if (byte < b'0') | (b'9' < byte) | (state == ZERO) | (NO_NUMBER <= state) {
+    if !byte.is_ascii_digit() | (state == ZERO) | (NO_NUMBER <= state) {
         return NO_NUMBER;
     }
-    let digit = wide(byte) - 48;
+    let digit = u64::from(byte - b'0');
     if state == NO_BYTE {
         return digit + 1;
     }
@@ -63,8 +56,8 @@ fn tested_after(state: u64, byte: u8) -> u64
 pub fn state_after(state: u64, byte: u8) -> u64
     ensures { result ≡ state_after state byte }
 {
-    if (b'0' <= byte) & (byte <= b'9') & (ZERO < state) & (state < FEW) {
-        return 10 * (state - 1) + (wide(byte) - 48) + 1;
+    if byte.is_ascii_digit() & (ZERO < state) & (state < FEW) {
+        return 10 * (state - 1) + u64::from(byte - b'0') + 1;
     }
     tested_after(state, byte)
 }
@@ -74,14 +67,14 @@ pub fn word_at(text: &[u8], at: usize) -> Word
     ensures { WordAt text.now at result }
 {
     let mut state = NO_BYTE;
-    let mut end = at;
-    while end < text.len() {
-        let byte = text[end];
-        if is_parting(byte) {
+    for end in at..text.len() {
+        if is_parting(text[end]) {
             return Word { state, end };
         }
-        state = state_after(state, byte);
-        end += 1;
+        state = state_after(state, text[end]);
     }
-    Word { state, end }
+    Word {
+        state,
+        end: at.max(text.len()),
+    }
 }

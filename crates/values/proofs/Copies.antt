@@ -1,17 +1,38 @@
 -- Values put into a list from a place on, one store a turn; those past its end are left out. Assumes nothing.
-use Rattle.std.proofs.Common.{◌≡◌, ℕ, suc, ◌+◌, ◌-◌, ◌<◌, ◌≤◌, min, Bool, true, false, ◌&&◌, eqb, ltb, List, [], ◌∷◌, ◌++◌, length, get_or, take, drop, set, sym, refl, ◌∙◌, add-one, arith, length-append, length-drop, length-set, drop_of_length-le, length-take, length-take-le, get_or-drop, drop-cons, get_or-take, take_at, ltb-false, ltb-true, lt-ltb}
+use Rattle.std.proofs.Common.{◌≡◌, ℕ, suc, ◌+◌, ◌-◌, ◌<◌, ◌≤◌, min, Bool, false, eqb, List, [], ◌∷◌, ◌++◌, length, get_or, take, drop, set, sym, refl, ◌∙◌, add-one, arith, length-append, length-drop, length-set, drop_of_length-le, length-take, length-take-le, get_or-drop, drop-cons, get_or-take, take_at, take-take, ap}
 use native.Mathlib.Decide.{dec_le}
+use borrow.Rule.Slice.PartMut.{put_mid}
 use lib.ListN.{length-map, get_or-map}
-use lib.Seq.{sets, sets-eq, set_out}
-use Rattle.answers.proofs.Tests.{first_true, second_true}
+use lib.Seq.{sets, sets-eq, set_out, take-nil}
+use Rattle.std.proofs.lemmas.List.{take_min}
+use Rattle.std.proofs.lemmas.Slice.{put_mid-paste}
 use Rattle.meaning.specs.Witnesses.{bits}
 
 -- ════════ Stores ════════
 
 -- Past the end nothing is put.
-sets_out : (l : List Bool) (at : ℕ) (xs : List Bool) → length l ≤ at → sets l at xs ≡ l
+pub sets_out : (l : List Bool) (at : ℕ) (xs : List Bool) → length l ≤ at → sets l at xs ≡ l
 sets_out l at [] h = refl
 sets_out l at (x ∷ xs) h = rw (set_out l at x h) (sets_out l (suc at) xs (omega arith))
+
+-- Those that have room are all that is put.
+sets_first : (l : List Bool) (at : ℕ) (xs : List Bool) → sets l at xs ≡ sets l at (take (length l - at) xs)
+sets_first l at [] = rw take-nil
+sets_first l at (x ∷ xs) = by_room (sets_first (set l at x) (suc at) xs) (dec_le (length l) at)
+  where
+    by_room : sets (set l at x) (suc at) xs ≡ sets (set l at x) (suc at) (take (length (set l at x) - suc at) xs) → Dec (length l ≤ at)
+        → sets l at (x ∷ xs) ≡ sets l at (take (length l - at) (x ∷ xs))
+    by_room later (yes h) = sets_out l at (x ∷ xs) h ∙ sym (sets_out l at (take (length l - at) (x ∷ xs)) h)
+    by_room later (no h) = let one : length l - at ≡ suc (length l - suc at) = omega arith in rw one (rw length-set at later)
+
+-- They are what a copy puts in the middle.
+pub put_in_middle : (l : List Bool) (at : ℕ) (xs : List Bool) (n k : ℕ) {ys : List Bool} → at ≤ length l → n ≡ min (length l - at) (length xs) → k ≡ n
+    → ys ≡ take n xs → put_mid at k l ys ≡ sets l at xs
+put_in_middle l at xs n k {ys} h e same is =
+    let first : take (length l - at) xs ≡ take n xs = sym (take_min (length l - at) xs) ∙ ap (λ (m : ℕ). take m xs) (sym e) in
+    let long : length (take n xs) ≡ n = length-take-le n xs (omega arith) in
+    put_mid-paste at k l ys (take n xs) n is (sym same) (sym long)
+    ∙ rw (take-take n n xs (omega arith)) (sym (sets_first l at xs ∙ rw first (sets-eq (take n xs) l at (omega (arith, long)) ∙ rw long refl)))
 
 -- Where all have room they stand there, after what stood before.
 pub sets_there : (l : List Bool) (at : ℕ) (xs : List Bool) {n : ℕ} → length xs ≡ n → at + n ≤ length l → take (at + n) (sets l at xs) ≡ take at l ++ xs
@@ -55,18 +76,6 @@ module _ {xs : List Bool} {at : ℕ} {l₀ : List Bool} where
         by_room : Dec (length xs ≤ i) → l ≡ sets l (at + i) (drop i xs)
         by_room (yes h) = let none : drop i xs ≡ [] = drop_of_length-le xs {i = i} h in rw none
         by_room (no h) = sym (sets_out l (at + i) (drop i xs) (omega (arith, to.long)))
-
--- A loop that puts them goes on while there is one more, and a place for it.
-module _ (i n m : ℕ) where
-  pub more_both : ltb i n && ltb i m ≡ true → (i < n) × (i < m)
-  more_both e = (ltb-true i n (first_true (ltb i n) (ltb i m) e), ltb-true i m (second_true (ltb i n) (ltb i m) e))
-
-  pub end_one : ltb i n && ltb i m ≡ false → min n m ≤ i
-  end_one e = by (dec_le n i)
-    where
-      by : Dec (n ≤ i) → min n m ≤ i
-      by (yes h) = omega arith
-      by (no h) = let past : m ≤ i = ltb-false i m (rw (lt-ltb i n (omega arith)) at e) in omega arith
 
 -- ════════ Bytes as values ════════
 

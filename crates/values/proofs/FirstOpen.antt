@@ -1,12 +1,13 @@
 -- The first number whose test fails, and the length of a witness within the limits. Assumes nothing.
-use Rattle.std.proofs.Common.{◌≡◌, ℕ, zero, suc, ◌+◌, ◌*◌, ◌^◌, ◌<◌, ◌≤◌, Bool, true, false, cond, List, refl, ap, ◌∙◌, suc-le-suc, zero-le, le_of_suc-le-suc, not-suc-le-zero, mod-eq_of_lt, mul-le-mul, arith}
+use Rattle.std.proofs.Common.{◌≡◌, ℕ, zero, suc, ◌+◌, ◌-◌, ◌*◌, ◌^◌, ◌<◌, ◌≤◌, min, Bool, true, false, cond, List, length, get_or, take, drop, refl, sym, ap, ◌∙◌, suc-le-suc, zero-le, le_of_suc-le-suc, not-suc-le-zero, mod-eq_of_lt, mul-le-mul, arith, length-take, length-drop, get_or-take, get_or-drop, Option, Some, None, MatchOption}
+use native.Mathlib.Decide.{dec_lt}
+use lib.ListN.{get_or-eq_default}
+use Rattle.meaning.specs.Problem.{Problem}
+use Rattle.meaning.specs.Proper.{Proper}
 use Rattle.answers.specs.Lists.{numbers, all_of}
 use Rattle.answers.specs.Limits.{inputs_limit, latches_limit, bound_limit}
 use Rattle.meaning.specs.Witnesses.{witness_length}
-use Rattle.problem.specs.declared.Outline.{Outline}
-use Rattle.problem.specs.Promise.{problem_in}
-use Rattle.problem.proofs.Outlines.{shows}
-use Rattle.values.specs.Values.{first_not, length_of}
+use Rattle.values.specs.Values.{first_not, closed_at, first_open, length_of}
 use Rattle.values.proofs.Fits.{one_fails, none_fails}
 
 -- ════════ The first that fails ════════
@@ -56,14 +57,53 @@ module _ (f : ℕ → Bool) (n : ℕ) {r : ℕ} (is : r ≡ first_not f n) where
   pub not_if_one : (r ≡ n → ⊥) → false ≡ all_of f (numbers 0 n)
   not_if_one d = let l : r < n = omega (arith, by_first.within) in one_fails f n l (by_first.fails l)
 
+-- ════════ The first latch that is open ════════
+
+-- The part of a list from a place on is asked by numbers of its own.
+part_has : (l : List Bool) (at i : ℕ) {k : ℕ} → k ≡ min at (length l) → get_or (take (length l - k) (drop k l)) (0 + i) false ≡ get_or l (at + i) false
+part_has l at i {k} e = by (dec_lt (at + i) (length l))
+  where
+    by : Dec (at + i < length l) → get_or (take (length l - k) (drop k l)) (0 + i) false ≡ get_or l (at + i) false
+    by (yes h) =
+        let same : k + (0 + i) ≡ at + i = omega arith in
+        get_or-take (length l - k) (drop k l) (0 + i) false (omega arith) ∙ get_or-drop k l (0 + i) false ∙ ap (λ (j : ℕ). get_or l j false) same
+    by (no h) =
+        get_or-eq_default (take (length l - k) (drop k l)) false (simp (length-take, length-drop) (omega arith))
+        ∙ sym (get_or-eq_default l false (omega arith))
+
+module _ (p : Problem) (row there : List Bool) (at : ℕ) {k : ℕ} (from : k ≡ min at (length there)) where
+  -- In the part from the place on.
+  abbrev pub closed_in_part : ℕ → Bool
+  closed_in_part = closed_at p row (take (length there - k) (drop k there)) 0
+
+  same_closed : (i : ℕ) {b : Bool} → closed_in_part i ≡ b → closed_at p row there at i ≡ b
+  same_closed i e = rw (part_has there at i from) at e
+
+  pub first_found : (n : ℕ) → n ≡ length p.latches → (r : Option ℕ)
+      → MatchOption r ((i : ℕ) → 0 ≤ i → i < n → closed_in_part i ≡ true)
+      (λ i. (0 ≤ i) × (i < n) × (closed_in_part i ≡ false) × ((j : ℕ) → 0 ≤ j → j < i → closed_in_part j ≡ true))
+      → MatchOption r (first_open p row there at ≡ length p.latches) (λ i. (i ≡ first_open p row there at) × (i < length p.latches))
+  unfolding first_open
+  first_found n e None all =
+      sym (first_is (closed_at p row there at) (length p.latches) (length p.latches) (record {
+        within = omega arith;
+        passed = λ j h. same_closed j (all j zero-le (omega arith));
+        fails = λ h. absurd (omega arith);
+      }))
+  first_found n e (Some i) one = (
+    first_is (closed_at p row there at) (length p.latches) i (record {
+      within = omega (arith, one.1);
+      passed = λ j h. same_closed j (one.3 j zero-le h);
+      fails = λ h. same_closed i one.2;
+    }),
+    omega (arith, one.1),
+  )
+
 -- ════════ The length of a witness ════════
 
-pub length_is : (s : Outline) → s.inputs ≤ inputs_limit → s.latches ≤ latches_limit → s.bound ≤ bound_limit → (ws : List ℕ)
-    → length_of s ≡ witness_length (problem_in s ws)
+pub length_is : {p : Problem} → Proper p → length_of p ≡ witness_length p
 unfolding inputs_limit latches_limit bound_limit length_of
-length_is s i l b ws =
-    let z = shows s ws in
-    let positions : s.bound + 1 ≤ bound_limit + 1 = omega arith in
-    let few : s.inputs * (s.bound + 1) ≤ inputs_limit * (bound_limit + 1) = mul-le-mul i positions in
-    rw (z.inputs_are, z.latches_are, z.bound_is)
-    (mod-eq_of_lt {n = 1 + (s.latches + s.inputs * (s.bound + 1))} {m = 2 ^ 64} (omega arith) ∙ omega arith)
+length_is {p} proper =
+    let positions : p.bound + 1 ≤ bound_limit + 1 = omega (arith, proper.bound_within) in
+    let few : p.inputs * (p.bound + 1) ≤ inputs_limit * (bound_limit + 1) = mul-le-mul proper.inputs_within positions in
+    mod-eq_of_lt {n = 1 + (length p.latches + p.inputs * (p.bound + 1))} {m = 2 ^ 64} (omega (arith, proper.latches_within)) ∙ omega arith

@@ -1,6 +1,8 @@
 -- The tests that stand before the formula's value: what they say, and what they leave of the value. Assumes nothing.
-use Rattle.std.proofs.Common.{◌≡◌, ℕ, zero, suc, ◌+◌, ◌-◌, ◌*◌, ◌<◌, ◌≤◌, Bool, true, false, not, ◌&&◌, eqb, ltb, leb, List, length, get_or, drop, sym, refl, ap, ◌∙◌, add-zero, arith, get_or-drop, get_or-take, ltb-true, lt-ltb, eq-eqb, eqb-true, le-leb, leb-true}
+use Rattle.std.proofs.Common.{◌≡◌, ℕ, zero, suc, ◌+◌, ◌-◌, ◌*◌, ◌<◌, ◌≤◌, Bool, true, false, Option, Some, None, not, ◌&&◌, eqb, ltb, leb, List, length, get_or, drop, sym, refl, ap, ◌∙◌, add-zero, add-one, arith, get_or-drop, get_or-take, ltb-true, lt-ltb, eq-eqb, eqb-true, le-leb, leb-true}
 use borrow.Author.Tests.{lt-leb, not-true}
+use Rattle.std.specs.Option.{ForSome, SomeIff}
+use Rattle.std.specs.List.{list_all, range_with_len}
 use Rattle.answers.specs.Lists.{numbers, all_of}
 use Rattle.answers.proofs.Tests.{both_true, first_true, second_true, not_both, false_if_not_true, all_of_at, all_of_if_at}
 use Rattle.answers.specs.Limits.{inputs_limit, latches_limit, gates_limit, nodes_limit, bound_limit}
@@ -12,11 +14,10 @@ use Rattle.meaning.specs.LassoValue.{bounded_value}
 use Rattle.meaning.specs.Witnesses.{shape_of}
 use Rattle.meaning.proofs.Numbers.{all_of_numbers, all_of_numbers_if}
 use Rattle.pairing.specs.NodeLaws.{Earlier}
-use Rattle.pairing.proofs.NodeValues.{ZeroFalse}
-use Rattle.problem.specs.declared.Outline.{Outline}
-use Rattle.problem.specs.Promise.{problem_in}
-use Rattle.problem.proofs.Outlines.{shows}
-use Rattle.values.specs.Tables.{row_width, rows_room, row_in, NodesFit, FormulaReady}
+use Rattle.pairing.proofs.NodeValues.{StartWithin, ZeroFalse}
+use Rattle.values.specs.declared.run.Run.{Run}
+use Rattle.values.specs.Tables.{row_width, rows_room, row_in, shape_at}
+use Rattle.values.specs.Nodes.{NodesFit, Ready}
 use Rattle.values.specs.Values.{left_earlier, earlier, nodes_fit, rows_fit, value_in}
 
 -- ════════ A loop over tests ════════
@@ -34,6 +35,11 @@ module _ {A : Type 0} (f : A → Bool) (xs : List A) (d : A) {i : ℕ} where
 
   pub no_element_fails : length xs ≤ i → ((j : ℕ) → j < i → f (get_or xs j d) ≡ true) → true ≡ all_of f xs
   no_element_fails l passed = sym (all_of_if_at f xs d (λ j h. passed j (omega arith)))
+
+-- A range's numbers, one after another.
+pub all_in_range : (f : ℕ → Bool) (i n : ℕ) → list_all f (range_with_len i n) ≡ all_of f (numbers i n)
+all_in_range f i zero = refl
+all_in_range f i (suc n) = rw (add-one, all_in_range f (suc i) n)
 
 -- ════════ Nodes ════════
 
@@ -103,18 +109,6 @@ module _ (p : Problem) where
       (both_true (both_true (le-leb _ _ fit.nodes_some) (le-leb _ _ fit.nodes_within)) (le-leb _ _ fit.bound_within))
       (all_of_numbers_if earlier_at (length p.nodes) (λ n l. earlier_if n (node p n) (fit.children.earlier n l)))
 
--- The limits as the outline has them.
-module _ (s : Outline) (ws : List ℕ) where
-  abbrev small : Bool
-  small = leb 1 s.formula_nodes && leb s.formula_nodes nodes_limit && leb s.bound bound_limit
-
-  pub nodes_unless_small : small ≡ false → false ≡ nodes_fit (problem_in s ws)
-  nodes_unless_small e = rw ((shows s ws).nodes_are, (shows s ws).bound_is, e)
-
-  pub nodes_if_small : small ≡ true → {r : Bool} → r ≡ all_of (λ n. earlier n (node (problem_in s ws) n)) (numbers 0 s.formula_nodes)
-      → r ≡ nodes_fit (problem_in s ws)
-  nodes_if_small e all = rw ((shows s ws).nodes_are, (shows s ws).bound_is, e) all
-
 -- ════════ Rows ════════
 
 -- Variable 0 stands first in its row.
@@ -140,12 +134,6 @@ module _ (p : Problem) (table : List Bool) where
     eqb-true _ _ (first_true roomy zeros e),
     λ t h. not-true _ (all_of_numbers zero_at (p.bound + 1) (second_true roomy zeros e) t (omega arith)),
   )
-
-  pub rows_unless_room : (length table ≡ rows_room → ⊥) → false ≡ rows_fit p table
-  rows_unless_room other = sym (false_if_not_true (rows_fit p table) (λ e. other (rows_fit_says e).0))
-
-  pub rows_unless_zero : (t : ℕ) → t ≤ p.bound → get_or (row_in table t) 0 false ≡ true → false ≡ rows_fit p table
-  rows_unless_zero t h other = sym (false_if_not_true (rows_fit p table) (λ e. not_both other ((rows_fit_says e).1 t h)))
 
   pub rows_fit_if : length table ≡ rows_room → ZeroFalse p.bound (row_in table) → rows_fit p table ≡ true
   rows_fit_if room zero_false =
@@ -174,16 +162,17 @@ module _ (p : Problem) (first : ℕ) (table : List Bool) where
       value_if_fit e Shape-is r-is = rw (nodes, le-leb first (p.bound + 1) h, e, Shape-is) r-is
 
 -- What the tests leave is what the passes ask.
-pub ready_if_fit : (s : Outline) (ws : List ℕ) (table : List Bool) → nodes_fit (problem_in s ws) ≡ true → rows_fit (problem_in s ws) table ≡ true
-    → {lasso : Bool} {start : ℕ} → (lasso ≡ true → start ≤ s.bound) → FormulaReady s ws lasso start table
-ready_if_fit s ws table nodes rows within =
-    let fits = rows_fit_says (problem_in s ws) table rows in
-    record {
-      fit = nodes_fit_says (problem_in s ws) nodes;
-      start_within = within;
-      room = fits.0;
-      zero_false = λ t h. fits.1 t (rw (shows s ws).bound_is h);
-    }
+pub ready_if_fit : (p : Problem) (run : Run) → run.last ≡ p.bound → nodes_fit p ≡ true → rows_fit p run.table.now ≡ true → Ready p run
+ready_if_fit p run last_is nodes rows = record {
+  fit = nodes_fit_says p nodes;
+  last_is = last_is;
+  start_within = go run.start (rw last_is at run.start_within);
+  zero_false = (rows_fit_says p run.table.now rows).1;
+}
+  where
+    go : (start : Option ℕ) → ForSome start (λ l. l ≤ p.bound) → StartWithin (shape_at start) p
+    go None h = tt
+    go (Some l) h = h l refl
 
 -- ════════ The first byte ════════
 
@@ -191,3 +180,13 @@ ready_if_fit s ws table nodes rows within =
 pub shape_later : (b : ℕ) → (b ≡ 0 → ⊥) → shape_of b ≡ lasso (b - 1)
 shape_later zero some = absurd (some refl)
 shape_later (suc b) some = let e : suc b - 1 ≡ b = omega arith in rw e
+
+pub shape_given : (start : Option ℕ) (b : ℕ) → SomeIff start (1 ≤ b) (b - 1) → shape_of b ≡ shape_at start
+shape_given None zero given = refl
+shape_given None (suc b) given = absurd (given (omega arith))
+shape_given (Some l) zero given = absurd (omega (arith, given.0))
+shape_given (Some l) (suc b) given = let e : l ≡ b = omega (arith, given.1) in rw e
+
+pub start_given : (start : Option ℕ) {b last : ℕ} → SomeIff start (1 ≤ b) (b - 1) → b ≤ last + 1 → ForSome start (λ l. l ≤ last)
+start_given None given within l e = cc
+start_given (Some l') given within l e = let same : l' ≡ l = cc in omega (arith, given.0, given.1)

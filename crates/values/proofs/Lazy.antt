@@ -1,4 +1,4 @@
--- Values that are lazy or wrong do not meet the promise: first whatever the words and the rows, then for each an input, and what it gives there.
+-- Values that are lazy or wrong do not meet the promise: first whatever the problem and the rows, then for each an input, and what it gives there.
 -- Assumes nothing.
 use Rattle.std.proofs.Common.{◌≡◌, ℕ, ◌+◌, ◌<◌, Bool, true, false, ◌&&◌, leb, List, [], ◌∷◌, get_or, sym, refl, ap, ◌∙◌, true≢false}
 use borrow.Author.Tests.{lt-leb}
@@ -13,10 +13,7 @@ use Rattle.values.specs.Values.{gates_put, nodes_fit, rows_fit, value_in}
 
 -- ════════ What it is to break a promise ════════
 
-module _ (s : Outline) (ws : List ℕ) where
-  abbrev p : Problem
-  p = problem_in s ws
-
+module _ (p : Problem) where
   -- This row after `gates`, this answer of `meets_constraints`, this value of `formula_value`.
   abbrev pub GatesBreak : List Bool → List Bool → Type 0
   GatesBreak row after = ¬ (after ≡ gates_put p.gates (given_width p) row)
@@ -27,7 +24,7 @@ module _ (s : Outline) (ws : List ℕ) where
   abbrev pub ValueBreaks : ℕ → List Bool → Bool → Type 0
   ValueBreaks first table r = ¬ (r ≡ value_in p first table)
 
-  -- ════════ Whatever the words ════════
+  -- ════════ Whatever the problem ════════
 
   -- A loop that starts past k: l + 1 is more than k + 1.
   pub start_past_k_breaks : (first : ℕ) (table : List Bool) → p.bound + 1 < first → ValueBreaks first table true
@@ -66,12 +63,15 @@ and_outline = record {
   nodes_from = 9;
 }
 
--- Both are on, and so is the gate, which fills no turn of eight: the row as it was.
-pub last_gates_left_out_breaks : GatesBreak and_outline and_words (false ∷ true ∷ true ∷ false ∷ []) (false ∷ true ∷ true ∷ false ∷ [])
+abbrev pub and_problem : Problem
+and_problem = problem_in and_outline and_words
+
+-- Both are on, and so is the gate: the row as it was.
+pub last_gates_left_out_breaks : GatesBreak and_problem (false ∷ true ∷ true ∷ false ∷ []) (false ∷ true ∷ true ∷ false ∷ [])
 unfolding problem_in problem_by
 last_gates_left_out_breaks e = true≢false (sym (ap (λ bs. get_or bs 3 false) e))
 
 -- The first is off: with its constraint left out there is none to be broken.
-pub only_constraint_left_out_breaks : ConstraintsBreak and_outline and_words (false ∷ false ∷ true ∷ false ∷ []) true
+pub only_constraint_left_out_breaks : ConstraintsBreak and_problem (false ∷ false ∷ true ∷ false ∷ []) true
 unfolding problem_in problem_by
-only_constraint_left_out_breaks = first_constraint_left_out_breaks and_outline and_words (false ∷ false ∷ true ∷ false ∷ []) 2 [] refl refl
+only_constraint_left_out_breaks = first_constraint_left_out_breaks and_problem (false ∷ false ∷ true ∷ false ∷ []) 2 [] refl refl

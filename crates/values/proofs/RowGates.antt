@@ -47,7 +47,7 @@ module _ {gs : List Gate} {at : ℕ} where
     more_gates more e = rw (← e) (record { long = more.long ∙ to.long; rest = more.rest ∙ to.rest })
 
   -- Those that have room are all that change something.
-  pub all_gates : {row₀ : List Bool} {j : ℕ} {row : List Bool} → GatesTo gs at 0 row₀ j row → j ≡ min (length gs) (length row₀ - at)
+  pub all_gates : {row₀ : List Bool} {j : ℕ} {row : List Bool} → GatesTo gs at 0 row₀ j row → min (length gs) (length row₀ - at) ≤ j
       → row ≡ gates_put gs at row₀
   all_gates {row₀} {j} {row} to e = by_room (dec_le (length gs) j) ∙ whole
     where

@@ -46,7 +46,7 @@ pub lent : (from : ℕ) → (from + row_width) - from ≡ row_width
 lent from = omega arith
 
 -- A row depends on the table up to its end.
-row_kept : (t n : ℕ) (table table' : List Bool) → (t + 1) * row_width ≤ n → take n table' ≡ take n table → row_in table' t ≡ row_in table t
+pub row_kept : (t n : ℕ) (table table' : List Bool) → (t + 1) * row_width ≤ n → take n table' ≡ take n table → row_in table' t ≡ row_in table t
 unfolding inputs_limit latches_limit gates_limit row_width
 row_kept t n table table' h e =
     part_of_take (t * row_width) row_width table'
@@ -62,6 +62,22 @@ pub wide_enough : {p : Problem} → Proper p → W p + 1 ≤ row_width
 unfolding inputs_limit latches_limit gates_limit row_width
 wide_enough proper = omega arith
 
+-- A row whose values are those of a position, as far as the problem has variables.
+module _ (p : Problem) (bs : List ℕ) (t : ℕ) (row : List Bool) (right : take (W p + 1) row ≡ rows p bs t) where
+  literal_as : (x : ℕ) → x ≤ 2 * W p + 1 → literal_value row x ≡ literal_value (rows p bs t) x
+  literal_as x l =
+      same_literal row (rows p bs t) x
+      (sym (get_or-take (W p + 1) row (x / 2) false (omega arith)) ∙ ap (λ (vs : List Bool). get_or vs (x / 2) false) right)
+
+  -- The next values by the row are those at the position.
+  pub next_are : Proper p → next_in p row ≡ next_values p (position p bs t)
+  unfolding next_values
+  next_are proper =
+      ext_get_or false (next_in p row) (next_in p (rows p bs t)) (length_next_in p row ∙ sym (length_next_in p (rows p bs t)))
+      (λ i q.
+      let q' : i < length p.latches = rw length_next_in at q in
+      next_by_row p row i q' ∙ literal_as (latch p i).next (proper.next_in_range i q') ∙ sym (next_by_row p (rows p bs t) i q'))
+
 module _ {p : Problem} {bs : List ℕ} {n : ℕ} {table : List Bool} (right : RowsRight p bs n table) where
   -- Rows stay right where the table changes only after them.
   pub rows_kept : {table' : List Bool} → length table' ≡ length table → take (n * row_width) table' ≡ take (n * row_width) table
@@ -74,24 +90,13 @@ module _ {p : Problem} {bs : List ℕ} {n : ℕ} {table : List Bool} (right : Ro
 
   -- A literal of the problem's variables has its value in the row.
   pub literal_in_row : {t : ℕ} → t < n → (x : ℕ) → x ≤ 2 * W p + 1 → literal_value (row_in table t) x ≡ literal_value (rows p bs t) x
-  literal_in_row {t} h x l =
-      same_literal (row_in table t) (rows p bs t) x
-      (sym (get_or-take (W p + 1) (row_in table t) (x / 2) false (omega arith))
-      ∙ ap (λ (vs : List Bool). get_or vs (x / 2) false) (right.right t h))
+  literal_in_row {t} h x l = literal_as p bs t (row_in table t) (right.right t h) x l
 
   module _ (proper : Proper p) {t : ℕ} (h : t < n) where
     pub next_value_in : (i : ℕ) → i < length p.latches
         → literal_value (row_in table t) (latch p i).next ≡ get_or (next_values p (position p bs t)) i false
     unfolding next_values
     next_value_in i q = literal_in_row h (latch p i).next (proper.next_in_range i q) ∙ sym (next_by_row p (rows p bs t) i q)
-
-    -- The next values by the row are those at the position.
-    pub next_are : next_in p (row_in table t) ≡ next_values p (position p bs t)
-    unfolding next_values
-    next_are =
-        ext_get_or false (next_in p (row_in table t)) (next_in p (rows p bs t))
-        (length_next_in p (row_in table t) ∙ sym (length_next_in p (rows p bs t)))
-        (λ i q. let q' : i < length p.latches = rw length_next_in at q in next_by_row p (row_in table t) i q' ∙ next_value_in i q')
 
     -- The row meets the constraints exactly where the position does.
     pub constraints_in_row : all_of (literal_value (row_in table t)) p.constraints ≡ meets_constraints p (position p bs t)

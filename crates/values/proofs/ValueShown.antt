@@ -1,6 +1,6 @@
 -- Over the table of a run the value is the bounded meaning of the formula: nodes and rows fit, and the literals of atoms have their values in the
 -- table. Assumes nothing.
-use Rattle.std.proofs.Common.{◌≡◌, ℕ, ◌+◌, ◌≤◌, Bool, List, sym, refl, ◌∙◌, subst, arith}
+use Rattle.std.proofs.Common.{◌≡◌, ℕ, ◌+◌, ◌≤◌, Bool, List, sym, refl, ◌∙◌, arith}
 use Rattle.meaning.specs.Problem.{Problem}
 use Rattle.meaning.specs.Proper.{Proper}
 use Rattle.meaning.specs.Formulas.{formula}
@@ -10,10 +10,8 @@ use Rattle.pairing.proofs.Trees.{children_earlier}
 use Rattle.pairing.proofs.Gates.{values_zero_false}
 use Rattle.pairing.proofs.NodeValues.{ZeroFalse, start_within}
 use Rattle.pairing.proofs.SameNodes.{formula_same}
-use Rattle.problem.specs.declared.Outline.{Outline}
-use Rattle.problem.specs.Promise.{problem_in, ProperIn}
-use Rattle.problem.proofs.Outlines.{shows}
-use Rattle.values.specs.Tables.{row_in, RowsRight, NodesFit}
+use Rattle.values.specs.Tables.{row_in, RowsRight}
+use Rattle.values.specs.Nodes.{NodesFit}
 use Rattle.values.specs.Values.{value_in}
 use Rattle.values.proofs.RowLaws.{literal_in_row}
 use Rattle.values.proofs.Fits.{nodes_fit_if, rows_fit_if, value_if_fit}
@@ -32,19 +30,10 @@ module _ {p : Problem} (proper : Proper p) {bs : List ℕ} {table : List Bool} (
   zero_false t h = literal_in_row right {t = t} (omega arith) 0 (omega arith) ∙ values_zero_false p (position p bs) t
 
   -- Of a problem that is proper, over the rows of a run.
-  pub value_of_run : (first : ℕ) → first ≤ p.bound + 1
+  pub value_shown : (first : ℕ) → first ≤ p.bound + 1
       → value_in p first table ≡ bounded_value (shape_of first) p.bound (rows p bs) (formula p) 0
-  value_of_run first h =
+  value_shown first h =
       sym (value_if_fit p first table (nodes_fit_if p nodes_there) h (rows_fit_if p table right.room zero_false) refl refl)
       ∙ formula_same (children_earlier proper) proper.nodes_some (shape_of first) (start_within p first h) (row_in table) (rows p bs)
       zero_false (λ t q. values_zero_false p (position p bs) t)
       (λ n t l q x e. literal_in_row right {t = t} (omega arith) x (rw e at (proper.nodes_proper n l)))
-
--- The same of the problem in words, by the bound of its outline.
-pub value_shown : {s : Outline} {ws bs : List ℕ} {table : List Bool} → ProperIn s ws → RowsRight (problem_in s ws) bs (s.bound + 1) table
-    → (first : ℕ) → first ≤ s.bound + 1
-    → value_in (problem_in s ws) first table
-    ≡ bounded_value (shape_of first) (problem_in s ws).bound (rows (problem_in s ws) bs) (formula (problem_in s ws)) 0
-value_shown {s} {ws} {bs} {table} good right first h =
-    let bound_is : s.bound ≡ (problem_in s ws).bound = sym (shows s ws).bound_is in
-    value_of_run good.proper (subst (λ (k : ℕ). RowsRight (problem_in s ws) bs (k + 1) table) bound_is right) first (omega arith)

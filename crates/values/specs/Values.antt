@@ -9,7 +9,6 @@ use Rattle.meaning.specs.Runs.{gate_value, literal_value}
 use Rattle.meaning.specs.Formulas.{formula}
 use Rattle.meaning.specs.LassoValue.{bounded_value}
 use Rattle.meaning.specs.Witnesses.{shape_of}
-use Rattle.problem.specs.declared.Outline.{Outline}
 use Rattle.values.specs.Tables.{row_in, rows_room}
 
 -- The values of gates put into a row from a place on, each over the row so far; those past the row's end are left out.
@@ -35,8 +34,8 @@ first_open p row there at = first_not (closed_at p row there at) (length p.latch
 -- ════════ The bytes ════════
 
 -- How many bytes a witness has, as a number of eight bytes.
-unfoldable pub length_of : Outline → ℕ
-length_of s = (1 + (s.latches + s.inputs * (s.bound + 1))) % 2 ^ 64
+unfoldable pub length_of : Problem → ℕ
+length_of p = (1 + (length p.latches + p.inputs * (p.bound + 1))) % 2 ^ 64
 
 -- ════════ The formula ════════
 

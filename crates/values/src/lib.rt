@@ -5,3 +5,4 @@ pub mod bytes;
 pub mod latches;
 pub mod nodes;
 pub mod rows;
+mod run;

@@ -1,7 +1,7 @@
 -- What the functions' proofs share, that the promise decides the answer, and that wrong versions break it.
-pub mod RowParts
 pub mod Checks
-pub mod ShownRun
+pub mod RowParts
+pub mod Parts
 pub mod Judging
 pub mod Unique
 pub mod Lazy

@@ -1,125 +1,100 @@
--- The parts of a position's row: where they have room, and what they come to one after another. Assumes nothing.
-use mathlib.Core.Path.{◌≡◌, sym, ◌∙◌}
-use mathlib.Core.Bool.{Bool, false}
-use mathlib.Core.List.{List, ◌∷◌, ◌++◌, append_assoc}
-use Prim.Native.Nat.{ℕ, suc, ◌+◌, ◌*◌, ◌-◌, ◌<◌, ◌≤◌}
-use native.Mathlib.Nat.{mul-suc, mul-le-mul_left}
-use native.Mathlib.Numerals.{add-one}
-use native.Mathlib.Omega.{arith}
-use lib.ListN.{length, take, drop, set}
-use lib.Seq.{take-suc-set}
+-- The parts of a position's row, and what they come to one after another. Assumes nothing.
+use Rattle.std.proofs.Common.{◌≡◌, ℕ, suc, ◌+◌, ◌*◌, ◌-◌, ◌<◌, ◌≤◌, Bool, false, List, ◌∷◌, ◌++◌, length, get_or, take, drop, set, length-set, sym, ◌∙◌, ap, arith, length-append, length-drop, take-suc-set, length-take-le, take_at, mul-le-mul_right}
+use lib.Seq.{take-length, take-append-le, take-append-add}
+use borrow.Rule.Slice.PartMut.{put_mid}
+use lib.Dec.{eqb}
+use lib.ListN.{length-map, get_or-map}
+use lib.Seq.{ext_get_or}
+use Rattle.std.proofs.lemmas.List.Edits.{sets}
+use Rattle.std.proofs.lemmas.Slice.{take-put_mid}
 use Rattle.answers.specs.Limits.{inputs_limit, latches_limit, gates_limit, bound_limit}
-use Rattle.meaning.specs.Problem.{Problem}
+use Rattle.meaning.specs.Problem.{Problem, W}
+use Rattle.meaning.specs.Proper.{Proper}
 use Rattle.meaning.specs.Runs.{values}
-use Rattle.meaning.specs.Witnesses.{bits, inputs_at, position}
-use Rattle.pairing.proofs.Runs.{position_first, position_inputs, position_next}
-use Rattle.problem.specs.declared.Outline.{Outline}
-use Rattle.problem.specs.Promise.{problem_in}
-use Rattle.problem.proofs.Outlines.{Shows, shows, bound_small}
-use Rattle.witness.specs.ShownRun.{RowRoom, RowReady, row_latches_from}
-use Rattle.values.specs.Tables.{RowsRight, row_width, row_in, given_width, next_in}
+use Rattle.meaning.specs.Witnesses.{bits, inputs_at, first_latches, position, rows}
+use Rattle.pairing.proofs.Runs.{position_first, position_inputs, position_next, length_inputs_at, length_latches}
+use Rattle.values.specs.Tables.{RowsRight, row_width, given_width, next_in}
 use Rattle.values.specs.Values.{gates_put}
-use Rattle.values.proofs.RowGates.{gates_there}
-use Rattle.values.proofs.RowLaws.{beginning_stays, rows_kept, next_are, one_more_row}
+use Rattle.values.proofs.Copies.{sets_there}
+use Rattle.values.proofs.RowGates.{gates_right}
+use Rattle.values.proofs.RowLaws.{wide_enough, row_kept, one_more_row, length_next_in, next_are}
+use Rattle.witness.specs.ShownRun.{RowReady, RowsBefore}
 
--- ════════ Variable 0 and the inputs ════════
+pub bits_if : (bs : List ℕ) (vs : List Bool) → length vs ≡ length bs → ((k : ℕ) → k < length bs → get_or vs k false ≡ eqb (get_or bs k 0) 1) → vs ≡ bits bs
+bits_if bs vs long same =
+    ext_get_or false vs (bits bs) (long ∙ sym (length-map bs (λ b. eqb b 1)))
+    (λ i q. same i (omega (arith, long)) ∙ sym (get_or-map (λ b. eqb b 1) bs i 0))
 
--- They are those of the outline, whatever the words are.
-pub inputs_there : {s : Outline} {bs : List ℕ} {t : ℕ} {table : List Bool} → RowRoom s bs t table → (table' : List Bool)
-    → take (t * row_width + 1 + s.inputs) table'
-    ≡ take (t * row_width + 1) (set table (t * row_width) false) ++ bits (take s.inputs (drop (1 + s.latches + s.inputs * t) bs))
-    → (ws : List ℕ) → take (row_latches_from (problem_in s ws) t) table' ≡ take (t * row_width) table ++ false ∷ inputs_at (problem_in s ws) bs t
-inputs_there {s} {bs} {t} {table} room table' e ws =
-    let z = shows s ws in
-    let here : t * row_width < length table = omega arith in
-    let place : row_latches_from (problem_in s ws) t ≡ suc (t * row_width) + s.inputs = omega arith in
-    rw (place, z.inputs_are, z.latches_are)
-    (rw (add-one (t * row_width), take-suc-set table (t * row_width) false here, append_assoc) at e)
+-- What is lent from a place on has its length.
+pub part_long : (from n : ℕ) → (from + n) - from ≡ n
+part_long from n = omega arith
 
-module _ {s : Outline} {ws bs : List ℕ} {t : ℕ} {table : List Bool} (ready : RowReady s ws bs t table) where
-  abbrev p : Problem
-  p = problem_in s ws
+-- A row with values put in the middle, up to their end.
+put_up_to : (row zs xs : List Bool) (a k n : ℕ) → zs ≡ xs → n ≡ a + length xs → a ≤ length row → take n (put_mid a k row zs) ≡ take a row ++ xs
+put_up_to row zs xs a k n e long h = rw e (take-put_mid a k row xs n long h)
 
-  sizes : Shows s (problem_in s ws)
-  sizes = shows s ws
+module _ {p : Problem} {bs : List ℕ} {t : ℕ} (proper : Proper p) {row : List Bool} (ready : RowReady p bs t row) where
+  wide : W p + 1 ≤ length row
+  wide = rw ready.row_long (wide_enough proper)
 
-  -- ════════ Room ════════
-
-  pub position_small : t ≤ bound_limit
-  position_small = omega (arith, ready.within, bound_small ready.good)
-
-  bytes_there : 1 + s.latches + s.inputs * t + s.inputs ≤ length bs
-  bytes_there =
-      let z = sizes in
-      let same : p.inputs * (p.bound + 1) ≡ s.inputs * (s.bound + 1) = rw (z.inputs_are, z.bound_is) in
-      omega (arith, ready.long, same, mul-suc s.inputs t, mul-le-mul_left {m = suc t} {n = s.bound + 1} s.inputs (omega (arith, ready.within)))
-
-  pub row_room : RowRoom s bs t table
-  unfolding inputs_limit latches_limit gates_limit row_width bound_limit
-  row_room = record {
-    given_narrow = omega (arith, sizes, ready.good.proper);
-    bytes_there = bytes_there;
-    row_there = omega (arith, position_small, ready.right.room);
-  }
-
-  fits : t * row_width ≤ length table
-  fits = omega (arith, row_room)
-
-  -- ════════ The latches ════════
+  -- Variable 0, then the inputs.
+  pub inputs_there : (zs : List Bool) (k : ℕ) → zs ≡ inputs_at p bs t → take (1 + p.inputs) (put_mid 1 k (set row 0 false) zs) ≡ false ∷ inputs_at p bs t
+  inputs_there zs k e =
+      let some : 0 < length row = omega (arith, wide) in
+      put_up_to (set row 0 false) zs (inputs_at p bs t) 1 k (1 + p.inputs) e (omega (arith, length_inputs_at p bs ready.long t ready.within))
+      (simp length-set (omega arith))
+      ∙ ap (λ (vs : List Bool). vs ++ inputs_at p bs t) (take-suc-set row 0 false some)
 
   -- The first latches are the witness's.
-  pub first_there : (table' : List Bool) → t ≡ 0
-      → take (1 + s.inputs + s.latches) table' ≡ take (1 + s.inputs) table ++ bits (take s.latches (drop 1 bs))
-      → take (row_latches_from p t + s.latches) table' ≡ take (row_latches_from p t) table ++ (position p bs t).latches
-  unfolding inputs_limit latches_limit gates_limit row_width
-  first_there table' zero e =
-      let z = sizes in
-      let place : row_latches_from p t ≡ 1 + s.inputs = omega arith in
-      rw (place, zero, position_first, z.latches_are) e
+  pub first_there : (zs : List Bool) (k : ℕ) → t ≡ 0 → zs ≡ first_latches p bs
+      → take (given_width p) (put_mid (1 + p.inputs) k row zs) ≡ take (1 + p.inputs) row ++ (position p bs t).latches
+  first_there zs k zero e =
+      put_up_to row zs (position p bs t).latches (1 + p.inputs) k (given_width p) (e ∙ rw zero (sym (position_first p bs)))
+      (omega (arith, length_latches p bs ready.long t ready.within)) (omega (arith, wide))
 
   -- The others are the next values of the position before.
-  pub next_there : (table' : List Bool) → (t ≡ 0 → ⊥)
-      → take (row_latches_from p (t - 1 + 1) + s.latches) table' ≡ take (row_latches_from p (t - 1 + 1)) table ++ next_in p (row_in table (t - 1))
-      → take (row_latches_from p t + s.latches) table' ≡ take (row_latches_from p t) table ++ (position p bs t).latches
-  next_there table' some e =
-      let z = sizes in
-      let back : t - 1 + 1 ≡ t = omega arith in
-      let back' : suc (t - 1) ≡ t = omega arith in
-      let latches : (position p bs t).latches ≡ next_in p (row_in table (t - 1)) =
-      rw back' at (position_next p bs (t - 1) (omega (arith, ready.within)))
-      ∙ sym (next_are ready.right ready.good.proper {t = t - 1} (omega arith)) in
-      rw latches (rw back at e)
+  pub next_there : (u : ℕ) (last : List Bool) → t ≡ suc u → take (W p + 1) last ≡ rows p bs u
+      → take (given_width p) (sets row (1 + p.inputs) (next_in p last)) ≡ take (1 + p.inputs) row ++ (position p bs t).latches
+  next_there u last e right =
+      let latches : (position p bs t).latches ≡ next_in p last = rw e (position_next p bs u (omega (arith, ready.within))) ∙ sym (next_are p bs u last right proper) in
+      rw latches (sets_there row (1 + p.inputs) (next_in p last) (length_next_in p last) (omega (arith, wide)))
 
-  -- ════════ One part after another ════════
+  -- The gates over both.
+  pub row_there : (row' : List Bool) → length row' ≡ length row → take (given_width p) row' ≡ (false ∷ inputs_at p bs t) ++ (position p bs t).latches
+      → take (W p + 1) (gates_put p.gates (given_width p) row') ≡ rows p bs t
+  unfolding values
+  row_there row' long given = gates_right proper row' (omega (arith, wide, long)) ∙ rw (given, position_inputs p bs t ready.within)
 
-  -- Where the inputs are there, the rows before are as they were.
-  pub ready_still : (table₂ : List Bool) → length table₂ ≡ length table
-      → take (row_latches_from p t) table₂ ≡ take (t * row_width) table ++ false ∷ inputs_at p bs t → RowReady s ws bs t table₂
-  ready_still table₂ long inputs = record {
-    good = ready.good;
-    long = ready.long;
-    within = ready.within;
-    right = rows_kept ready.right long (beginning_stays (t * row_width) (1 + p.inputs) table table₂ _ fits inputs);
+-- ════════ One row after another ════════
+
+-- The table is lent as the rows before and the rest, of which the row is the beginning.
+module _ {p : Problem} {bs : List ℕ} {t : ℕ} (proper : Proper p) {table : List Bool} (right : RowsRight p bs t table) (before rest : List Bool)
+    (parts : table ≡ before ++ rest) (long : length before ≡ t * row_width) (within : t ≤ p.bound) where
+  row_fits : row_width ≤ length rest
+  unfolding inputs_limit latches_limit gates_limit row_width bound_limit
+  row_fits = omega (arith, simp length-append at (ap length parts), right.room, proper.bound_within)
+
+  pub row_lent : length (take row_width rest) ≡ row_width
+  row_lent = length-take-le row_width rest row_fits
+
+  pub rows_before : RowsBefore p bs t before
+  rows_before = record {
+    room = long;
+    right = λ u h.
+        let same : take (t * row_width) before ≡ take (t * row_width) table =
+        rw (parts, take_at before rest (t * row_width) long, ← long) (take-length before) in
+        rw (row_kept u (t * row_width) table before (mul-le-mul_right {m = u + 1} {n = t} row_width (omega arith)) same) (right.right u h);
   }
 
-  -- The row's part of the table is lent to the gates after its inputs and its latches.
-  module _ (table₂ table₃ row : List Bool) (long₂ : length table₂ ≡ length table) (long₃ : length table₃ ≡ length table₂)
-      (inputs : take (row_latches_from p t) table₂ ≡ take (t * row_width) table ++ false ∷ inputs_at p bs t)
-      (latches : take (row_latches_from p t + s.latches) table₃ ≡ take (row_latches_from p t) table₂ ++ (position p bs t).latches) where
-    abbrev given : List Bool
-    given = false ∷ (inputs_at p bs t ++ (position p bs t).latches)
-
-    given_there : take (t * row_width + given_width p) table₃ ≡ take (t * row_width) table ++ given
-    given_there =
-        let z = sizes in
-        let place : t * row_width + given_width p ≡ row_latches_from p t + s.latches = omega arith in
-        rw place (latches ∙ rw (inputs, append_assoc))
-
-    pub row_there : row ≡ gates_put p.gates (given_width p) (row_in table₃ t)
-        → (rest : List Bool) → length (take (t * row_width) table₃ ++ (row ++ rest)) ≡ length table₃
-        → RowsRight p bs (t + 1) (take (t * row_width) table₃ ++ (row ++ rest))
-    unfolding values
-    row_there gates rest long₄ =
-        one_more_row ready.right ready.good.proper (long₄ ∙ long₃ ∙ long₂) position_small
-        (gates_there ready.good.proper (t * row_width) given table table₃ row_room.row_there (long₃ ∙ long₂) given_there row rest gates
-        ∙ rw (position_inputs p bs t (omega (arith, sizes, ready.within))))
+  pub one_row : (row : List Bool) → length row ≡ row_width → take (W p + 1) row ≡ rows p bs t
+      → RowsRight p bs (t + 1) (before ++ (row ++ drop row_width rest))
+  one_row row row_long is =
+      one_more_row right proper
+      (rw parts (simp (length-append, length-drop) (omega (arith, row_fits, row_long)))) (omega (arith, proper.bound_within)) begins
+    where
+      begins : take (t * row_width + (W p + 1)) (before ++ (row ++ drop row_width rest)) ≡ take (t * row_width) table ++ rows p bs t
+      begins =
+          rw (parts, take_at before rest (t * row_width) long, ← long)
+          (take-append-add before (row ++ drop row_width rest) (W p + 1)
+          ∙ ap (λ (vs : List Bool). before ++ vs)
+          (take-append-le (W p + 1) row (drop row_width rest) (rw row_long (wide_enough proper)) ∙ is))

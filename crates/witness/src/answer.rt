@@ -1,34 +1,32 @@
-// The documents' number and place of each answer to a witness.
+// The documents' row of each answer to a witness but the yes.
 ghost use Rattle.std.specs.Prelude.{◌≡◌};
-ghost use Rattle.witness.specs.Promise.{answer_of};
+ghost use Rattle.answers.specs.Table.{row_of};
+ghost use Rattle.witness.specs.Promise.{answer_of, not_witness_answer};
 
-use crate::WitnessAnswer;
-use problem::answer::{refusal_number, refusal_place};
+use crate::NotWitness;
+use answers::answer::Answer;
 
-pub fn number(a: WitnessAnswer) -> u32
-    ensures { result ≡ (answer_of a).number }
-{
-    match a {
-        WitnessAnswer::Yes => 0,
-        WitnessAnswer::Problem(f) => refusal_number(f),
-        WitnessAnswer::BadWitness(_) => 7,
-        WitnessAnswer::AgainstReset(_) => 8,
-        WitnessAnswer::OpenLoop(_) => 9,
-        WitnessAnswer::ConstraintBroken(_) => 20,
-        WitnessAnswer::FormulaFalse => 10,
+impl From<NotWitness> for Answer {
+    ghost from_gives = { λ f a. row_of a ≡ not_witness_answer f };
+
+    fn from(f: NotWitness) -> Answer {
+        match f {
+            NotWitness::Problem(f) => Answer::from(f),
+            NotWitness::BadWitness(i) => Answer::new(7, i),
+            NotWitness::AgainstReset(i) => Answer::new(8, i),
+            NotWitness::OpenLoop(i) => Answer::new(9, i),
+            NotWitness::ConstraintBroken(t) => Answer::new(20, t),
+            NotWitness::FormulaFalse => Answer::new(10, 0),
+        }
     }
 }
 
-pub fn place(a: WitnessAnswer) -> usize
-    ensures { result ≡ (answer_of a).place }
+// The row of what judging answers.
+pub fn answer(r: Result<(), NotWitness>) -> Answer
+    ensures { row_of result ≡ answer_of r }
 {
-    match a {
-        WitnessAnswer::Yes => 0,
-        WitnessAnswer::Problem(f) => refusal_place(f),
-        WitnessAnswer::BadWitness(i) => i,
-        WitnessAnswer::AgainstReset(i) => i,
-        WitnessAnswer::OpenLoop(i) => i,
-        WitnessAnswer::ConstraintBroken(t) => t,
-        WitnessAnswer::FormulaFalse => 0,
+    match r {
+        Ok(()) => Answer::new(0, 0),
+        Err(f) => Answer::from(f),
     }
 }

@@ -1,53 +1,50 @@
 // The checks of a witness's bytes, of its first latches, of its loop and of its positions, in the documents' order.
-ghost use Rattle.std.specs.Prelude.{List, ◌≡◌, ℕ, ◌≤◌, length};
+ghost use Rattle.std.specs.Prelude.{List, ◌≡◌, ℕ, length};
 ghost use Rattle.answers.specs.Lists.{numbered};
-ghost use Rattle.answers.specs.Limits.{inputs_limit, latches_limit, bound_limit};
 ghost use Rattle.meaning.specs.Runs.{meets_reset};
 ghost use Rattle.meaning.specs.Witnesses.{witness_length, byte_limit, byte_checks, reset_checks, loop_checks, position_checks, shape};
-ghost use Rattle.problem.specs.Promise.{problem_in};
 ghost use Rattle.witness.specs.ShownRun.{RunShown};
 ghost use Rattle.values.specs.Tables.{rows_room};
 ghost use Rattle.witness.specs.Promise.{AnsweredBy, byte_check};
 
-use crate::WitnessAnswer;
+use crate::NotWitness;
 use crate::run::TRUE;
-use problem::Outline;
-use problem::read::latch_reset;
+use problem::good::Problem;
 use values::bytes::{LATCHES_AT, witness_length};
 use values::latches::first_open;
 use values::rows::{INPUTS_AT, ROW_WIDTH, meets_constraints};
 
 // "Apart from the first, bytes are 0 or 1."
-fn byte_limit(s: Outline, i: usize) -> u32
-    requires { s.bound ≤ bound_limit }
-    ensures { (ws : List ℕ) → result ≡ byte_limit (problem_in s ws) i }
+#[tactic(auto, unfolding(answers::specs::Limits::bound_limit))]
+fn byte_limit(p: &Problem, i: usize) -> u32
+    ensures { result ≡ byte_limit p.now i }
 {
-    if i == 0 { s.bound + 1 } else { TRUE as u32 }
+    if i == 0 {
+        p.bound() + 1
+    } else {
+        u32::from(TRUE)
+    }
 }
 
-fn each_byte(s: Outline, witness: &[u8]) -> WitnessAnswer
-    requires { s.bound ≤ bound_limit }
-    ensures { (ws : List ℕ) → AnsweredBy (numbered 0 witness.now (byte_check (problem_in s ws))) result }
+fn each_byte(p: &Problem, witness: &[u8]) -> Result<(), NotWitness>
+    ensures { AnsweredBy (numbered 0 witness.now (byte_check p.now)) result }
 {
-    let mut i: usize = 0;
-    while i < witness.len() {
-        if byte_limit(s, i) < (witness[i] as u32) {
-            return WitnessAnswer::BadWitness(i);
+    for (i, byte) in witness.iter().enumerate() {
+        if byte_limit(p, i) < u32::from(*byte) {
+            return Err(NotWitness::BadWitness(i));
         }
-        i += 1;
     }
-    WitnessAnswer::Yes
+    Ok(())
 }
 
 // 7: "the length comes first, then the bytes in order".
-pub(crate) fn bytes_right(s: Outline, witness: &[u8]) -> WitnessAnswer
-    requires { (s.inputs ≤ inputs_limit) × (s.latches ≤ latches_limit) × (s.bound ≤ bound_limit) }
-    ensures { (ws : List ℕ) → AnsweredBy (byte_checks (problem_in s ws) witness.now) result }
+pub(crate) fn bytes_right(p: &Problem, witness: &[u8]) -> Result<(), NotWitness>
+    ensures { AnsweredBy (byte_checks p.now witness.now) result }
 {
-    if witness.len() != witness_length(s) {
-        return WitnessAnswer::BadWitness(witness.len());
+    if witness.len() != witness_length(p.shown()) {
+        return Err(NotWitness::BadWitness(witness.len()));
     }
-    each_byte(s, witness)
+    each_byte(p, witness)
 }
 
 // "Reset is 0, 1, or 2 for free."
@@ -62,53 +59,45 @@ fn meets_reset(reset: u32, value: bool) -> bool
 }
 
 // 8: the first latch byte against its reset.
-pub(crate) fn resets(words: &[u32], s: Outline, witness: &[u8]) -> WitnessAnswer
-    requires { length witness.now ≡ witness_length (problem_in s words.now) }
-    ensures { AnsweredBy (reset_checks (problem_in s words.now) witness.now) result }
+pub(crate) fn resets(p: &Problem, witness: &[u8]) -> Result<(), NotWitness>
+    requires { length witness.now ≡ witness_length p.now }
+    ensures { AnsweredBy (reset_checks p.now witness.now) result }
 {
-    let mut i: u32 = 0;
-    while i < s.latches {
+    for i in 0..p.latches() {
         let at = LATCHES_AT + (i as usize);
-        if !meets_reset(latch_reset(words, s, i), witness[at] == TRUE) {
-            return WitnessAnswer::AgainstReset(at);
+        if !meets_reset(p.shown().latch_reset(i), witness[at] == TRUE) {
+            return Err(NotWitness::AgainstReset(at));
         }
-        i += 1;
     }
-    WitnessAnswer::Yes
+    Ok(())
 }
 
 // 9: the first latch whose next value at k is not its value at l.
-pub(crate) fn closes(words: &[u32], s: Outline, witness: &[u8], table: &[bool]) -> WitnessAnswer
-    requires { RunShown s words.now witness.now table.now }
-    ensures { AnsweredBy (loop_checks (problem_in s words.now) witness.now (shape witness.now)) result }
+pub(crate) fn closes(p: &Problem, witness: &[u8], table: &[bool]) -> Result<(), NotWitness>
+    requires { RunShown p.now witness.now table.now }
+    ensures { AnsweredBy (loop_checks p.now witness.now (shape witness.now)) result }
 {
-    let first = witness[0] as usize;
-    if first == 0 {
-        return WitnessAnswer::Yes;
+    let Some(start) = usize::from(witness[0]).checked_sub(1) else {
+        return Ok(());
+    };
+    let last = (p.bound() as usize) * ROW_WIDTH;
+    let from = start * ROW_WIDTH + INPUTS_AT + (p.inputs() as usize);
+    match first_open(p.shown(), &table[last..last + ROW_WIDTH], table, from) {
+        Some(i) => Err(NotWitness::OpenLoop(i as usize)),
+        None => Ok(()),
     }
-    let last = (s.bound as usize) * ROW_WIDTH;
-    let end = last + ROW_WIDTH;
-    let from = (first - 1) * ROW_WIDTH + INPUTS_AT + (s.inputs as usize);
-    let open = first_open(words, s, &table[last..end], table, from);
-    if open < s.latches {
-        return WitnessAnswer::OpenLoop(open as usize);
-    }
-    WitnessAnswer::Yes
 }
 
 // 20: the first position at which a constraint is false, of whatever witness shows the table.
-pub(crate) fn constraints(words: &[u32], s: Outline, table: &[bool]) -> WitnessAnswer
-    requires { (s.bound ≤ bound_limit) × (length table.now ≡ rows_room) }
-    ensures { (bs : List ℕ) → RunShown s words.now bs table.now → AnsweredBy (position_checks (problem_in s words.now) bs) result }
+pub(crate) fn constraints(p: &Problem, table: &[bool]) -> Result<(), NotWitness>
+    requires { length table.now ≡ rows_room }
+    ensures { (bs : List ℕ) → RunShown p.now bs table.now → AnsweredBy (position_checks p.now bs) result }
 {
-    let mut t: u32 = 0;
-    while t <= s.bound {
-        let from = (t as usize) * ROW_WIDTH;
-        let to = from + ROW_WIDTH;
-        if !meets_constraints(words, s, &table[from..to]) {
-            return WitnessAnswer::ConstraintBroken(t as usize);
+    for t in 0..=p.bound() as usize {
+        let from = t * ROW_WIDTH;
+        if !meets_constraints(p.shown(), &table[from..from + ROW_WIDTH]) {
+            return Err(NotWitness::ConstraintBroken(t));
         }
-        t += 1;
     }
-    WitnessAnswer::Yes
+    Ok(())
 }

@@ -5,6 +5,6 @@ use Rattle.job_file.specs.Text.{text_limit}
 use Rattle.job_file.proofs.TextRoom.{never_short}
 use Rattle.print_cnf.proofs.text_of.Goals as goal
 
-pub returns-in-Short : goal.returns-in-Short
+pub returns-in-Err : goal.returns-in-Err
 unfolding text_limit program_room
-returns-in-Short c = absurd (never_short _ (search rules) c.in-Short.ensures)
+returns-in-Err c = absurd (never_short _ (search rules) c.in-Err.ensures)

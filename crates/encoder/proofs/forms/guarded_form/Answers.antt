@@ -1,0 +1,11 @@
+-- One clause after the other. Assumes nothing.
+use Rattle.encoder.proofs.OneAfterAnother.{wrote_then}
+use Rattle.encoder.proofs.MachineLiterals.{word_is, negation_is}
+use Rattle.encoder.proofs.forms.guarded_form.Goals as goal
+
+pub returns : goal.returns
+returns c =
+    let s = c.requires.1 in
+    let x = c.requires.2 in
+    let a = c.requires.3 in
+    simp (word_is, negation_is) at (wrote_then c.clause-next.ensures c.clause.ensures)

@@ -1,0 +1,12 @@
+-- What is written for each of the positions is the whole. Assumes nothing.
+use Rattle.std.proofs.Common.{rules}
+use Rattle.encoder.specs.ItemParts.{selectors_after}
+use Rattle.encoder.proofs.selectors.selectors.Goals as goal
+
+pub each-requires : goal.each-requires
+each-requires c =
+    (selectors_after c.args.p.now, search rules, rw c.positions-n.ensures.is c.requires)
+
+pub returns : goal.returns
+returns c =
+    rw c.positions-n.ensures.is at (c.each.ensures (selectors_after c.args.p.now) (search rules) (rw c.positions-n.ensures.is c.requires))

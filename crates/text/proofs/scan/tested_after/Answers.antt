@@ -1,0 +1,21 @@
+use Rattle.std.proofs.Common.{arith}
+use Rattle.std.proofs.lemmas.Bool.Decides.{nat_tests}
+use Rattle.answers.specs.Limits.{largest_number}
+use Rattle.text.specs.Promise.{state_after}
+use Rattle.text.proofs.scan.tested_after.Goals as goal
+
+pub returns-then-is_ascii_digit-state : goal.returns-then-is_ascii_digit-state
+unfolding state_after largest_number
+returns-then-is_ascii_digit-state c = grind (arith, nat_tests)
+
+pub returns-then-state-eq-NO_BYTE : goal.returns-then-state-eq-NO_BYTE
+unfolding state_after largest_number
+returns-then-state-eq-NO_BYTE c = grind (arith, nat_tests)
+
+pub returns-then-n-gt-LARGEST_NUMBER : goal.returns-then-n-gt-LARGEST_NUMBER
+unfolding state_after largest_number
+returns-then-n-gt-LARGEST_NUMBER c = grind (arith, nat_tests)
+
+pub returns : goal.returns
+unfolding state_after largest_number
+returns c = grind (arith, nat_tests)
