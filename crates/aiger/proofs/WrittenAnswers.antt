@@ -9,7 +9,6 @@ use lib.Dec.{leb, eqb}
 use lib.ListN.{length}
 use Rattle.answers.specs.Answers.{Check, granted, Answer, first_failing_part, output_room_too_small}
 use Rattle.answers.specs.Limits.{longest_text}
-use Rattle.text.specs.Promise.{largest_size}
 use Rattle.problem.specs.declared.Refusal.{Refusal}
 use Rattle.std.specs.Prelude.{Ok, Err}
 use Rattle.problem.specs.Promise.{refusal_answer}

@@ -1,5 +1,6 @@
 // What is due in a text, each from where the one before it came to: it stands there, or its place is the fault's. Numbers that are kept are
-// put into a table.
+// put into a table, which is lent. The text, how far it was read and the table stay three parameters: of a struct that holds a `&mut` the check
+// gives no proof.
 ghost use Rattle.std.specs.Prelude.{◌≡◌, ◌<◌, length, drop};
 ghost use Rattle.text.specs.Numbers.{bytes_of};
 ghost use Rattle.text.specs.Readings.{mark, told, at_most, exactly};

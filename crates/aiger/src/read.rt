@@ -30,6 +30,7 @@ fn judge(text: &[u8], table: &mut [u32]) -> Result<Sizes, usize>
     requires { 2 * (inputs_limit + latches_limit + outputs_limit + gates_limit) ≤ length table.old }
     ensures { MatchResult result (λ s. (numbers_kept s ≤ length table.new) × FoundWords (circuit_read text.now) (in_order s (take (numbers_kept s) table.new))) (λ p. circuit_read text.now ≡ fault p) }
 {
+    // The header's five numbers stand in their order: M, I, L, O, A.
     let opened = opening(text, table)?;
     let s = Sizes {
         inputs: table[1],

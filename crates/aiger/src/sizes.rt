@@ -34,7 +34,8 @@ impl Model for Sizes {
     ghost inverse = { λ s. record { inputs = s.inputs; latches = s.latches; gates = s.gates; outputs = s.outputs } };
 }
 
-// What has a line of its own in a text. A kind is plainer than a closure for each line, which may be called only while the table has room.
+// What has a line of its own in a text. A kind is plainer than a closure for each line, which may be called only while the table has room; what is
+// written goes by the same kinds.
 #[derive(Clone, Copy, Debug, PartialEq, Eq)]
 pub(crate) enum Kind {
     Input,

@@ -1,4 +1,5 @@
 // Each call: its buffers read, the library asked, and the answer printed with the buffers that it may write.
+// A request's parts stay four parameters: of a struct that holds a `&mut` the check gives no proof.
 use crate::Buffers;
 use crate::input::{Fault, next_bytes, next_room, next_words};
 use crate::output::Lines;

@@ -6,7 +6,7 @@ use std::fmt::{Display, Write};
 
 const OUT: usize = 4096;
 
-// A write that fails is left so: no later answer could tell of it.
+// A buffer of its own and a place in it, since there is no heap. A write that fails is left so: no later answer could tell of it.
 #[derive(Drop)]
 pub(crate) struct Lines<'a, P> {
     rt: &'a P,

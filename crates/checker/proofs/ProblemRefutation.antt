@@ -24,11 +24,9 @@ use Rattle.std.specs.Prelude.{Result, Ok, Err, MatchResult}
 use Rattle.std.specs.Result.{IsErrAnd}
 use Rattle.std.proofs.lemmas.Result.{err_from_is_err_and}
 use Rattle.refutation.specs.declared.NotRefuted.{NotRefuted}
-use Rattle.refutation.specs.declared.NotRefuted.TheVariants as not-refuted
 use Rattle.refutation.specs.Promise.{answer_of, Judged}
-use Rattle.encoder.specs.declared.NotWritten.TheVariants as not-written
 use Rattle.checker.specs.declared.Unrefuted.{Unrefuted}
-use Rattle.checker.specs.declared.Unrefuted.TheVariants.{Cnf, Refutation}
+use Rattle.checker.specs.declared.Unrefuted.TheVariants.{Refutation}
 use Rattle.meaning.specs.Problem.{Problem, problem}
 use Rattle.meaning.specs.Proper.{Proper}
 use Rattle.meaning.specs.Cnf.{cnf, cnf_words, variables}
@@ -39,13 +37,10 @@ use Rattle.meaning.proofs.Calls.{refutation_by_steps}
 use Rattle.meaning.proofs.Ranges.{literals_within, variables_fit}
 use Rattle.meaning.proofs.ReadBack.{cnf_read_back}
 use Rattle.pairing.proofs.AtOrBelow.{problem_refuted}
-use Rattle.problem.specs.declared.Refusal.{Refusal}
-use Rattle.problem.specs.declared.Refusal.TheVariants.{BadVersion, BadLength, OutsideLimits, BadReset, BadLiteral, BadNode}
-use Rattle.problem.specs.Promise.{refusal_answer}
 use Rattle.problem.proofs.Formed.{passes_if_handed_on}
 use Rattle.counts.specs.declared.Counts.{Counts}
 use Rattle.checker.specs.Preparing.{prepared_then, PreparedAs}
-use Rattle.checker.specs.Refutation.{unrefuted_answer, refuted_answer, CnfHeld, JudgedFor, JudgedAs}
+use Rattle.checker.specs.Refutation.{refuted_answer, CnfHeld, JudgedFor, JudgedAs}
 
 -- ════════ The words of a CNF pass 16 ════════
 

@@ -1,4 +1,4 @@
--- What judging a refutation of a problem's CNF promises, and its enums as the answers of document 01. Assumes nothing.
+-- What judging a refutation of a problem's CNF promises, and its refusals as the answers of document 01. Assumes nothing.
 use Rattle.std.specs.Prelude.{◌≡◌, List, ℕ, ◌≤◌, ℤ, length, take, Result, Ok, Err}
 use Rattle.answers.specs.Answers.{Answer, granted}
 use Rattle.clauses.specs.Refutations.{steps_of, judge_clauses, numbers_area, clauses_area, area_after}

@@ -94,7 +94,8 @@ fn total_in(t: Tally, each: usize) -> usize
     circuit + closing_item + selectors_item + nodes_item + one
 }
 
-// The numbers of the CNF of every proper problem in which so much is counted; 0s where too much is, or no position.
+// The numbers of the CNF of every proper problem in which so much is counted; 0s where too much is, or no position. Numbers and no Option:
+// `counts_by` promises them of any tally.
 pub fn counts(t: Tally) -> Counts
     ensures { result ≡ counts_by (tally_of t) }
 {

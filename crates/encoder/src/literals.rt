@@ -1,4 +1,5 @@
 // The numbers of the CNF's variables, which the width W and the bound k of a problem give.
+// An `as i32` is proved to lose nothing: `try_from` would answer an error that cannot come.
 #![tactic(auto, unfolding(answers::specs::Limits::inputs_limit, answers::specs::Limits::latches_limit, answers::specs::Limits::gates_limit, answers::specs::Limits::nodes_limit, answers::specs::Limits::bound_limit))]
 
 ghost use Rattle.std.specs.Prelude.{◌≡◌, ◌+◌, ◌*◌, ◌^◌, ◌<◌, ◌≤◌};

@@ -1,5 +1,5 @@
 // Words and clauses, one after the other. Only these functions store a word.
-// The room and the place in it stay two parameters: a struct with the `&mut` inside would need contracts no plainer.
+// The room is lent and the place in it stands beside it: of a struct that holds a `&mut` the check gives no proof.
 ghost use Rattle.std.specs.Prelude.{[], ◌∷◌, ◌+◌, ◌<◌, ◌≤◌, length};
 ghost use Rattle.clauses.specs.CnfWords.{ended_by_0};
 ghost use Rattle.encoder.specs.Writing.{Wrote};

@@ -1,6 +1,6 @@
 -- The values of a run: the row of a position, and what the loop over the positions keeps. Assumes nothing.
 use Rattle.finder.specs.declared.run.TheConstants.{GIVEN}
-use Rattle.values.specs.declared.rows.TheConstants.{POSITIONS}
+use Rattle.values.specs.declared.rows.TheConstants.{POSITIONS, ROWS}
 use mathlib.Core.Bool.{Bool, true, false}
 use mathlib.Core.List.{List, [], ◌∷◌, ◌++◌, append_assoc}
 use mathlib.Core.Path.{◌≡◌, sym, ◌∙◌, ap, ap₂}
@@ -14,14 +14,14 @@ use lib.Dec.{eqb}
 use lib.ListN.{length, get_or, take, drop, set, length-drop}
 use lib.Seq.{sets, length-sets, take-add, take-suc-set, get_or-take, get_or-drop, length-take-le, ext_get_or}
 use Rattle.answers.specs.Lists.{all_of}
-use Rattle.answers.specs.Limits.{inputs_limit, latches_limit, bound_limit}
+use Rattle.answers.specs.Limits.{inputs_limit, latches_limit, gates_limit, bound_limit}
 use Rattle.meaning.specs.Problem.{Problem, W, latch}
 use Rattle.meaning.specs.Proper.{Proper}
 use Rattle.meaning.specs.Runs.{literal_value, values, meets_constraints, with_gates}
 use Rattle.meaning.specs.Witnesses.{byte, inputs_at, position}
 use Rattle.pairing.proofs.Rows.{next_by_row}
 use Rattle.pairing.proofs.Runs.{position_first, position_inputs, position_next, length_inputs_at, length_latches}
-use Rattle.values.specs.Tables.{RowsRight, row_width, rows_room, row_in, given_width, next_in}
+use Rattle.values.specs.Tables.{RowsRight, row_width, row_in, given_width, next_in}
 use Rattle.values.specs.Values.{gates_put}
 use Rattle.values.proofs.Copies.{bit_at, sets_there}
 use Rattle.values.proofs.RowGates.{gates_there}
@@ -86,7 +86,8 @@ pub record RunTo (p : Problem) (m n : ℕ) (run : List (List Bool)) (table : Lis
   pub constraints_met : (t : ℕ) → t < n → meets_constraints p (position p (0 ∷ run_bytes p m) t) ≡ true
 
 module _ {p : Problem} {m : ℕ} where
-  pub none_shown : {run : List (List Bool)} {table : List Bool} → Filled p m run → length table ≡ rows_room → RunTo p m 0 run table
+  pub none_shown : {run : List (List Bool)} {table : List Bool} → Filled p m run → length table ≡ ROWS → RunTo p m 0 run table
+  unfolding row_width inputs_limit latches_limit gates_limit bound_limit
   none_shown {run} {table} filled room = record {
     within = omega arith;
     held = filled.held;
@@ -149,13 +150,13 @@ module _ {p : Problem} {m : ℕ} where
         ∙ ap₂ (λ (xs ys : List Bool). xs ++ ys) (inputs_of ∙ sym (position_inputs p (bytes p m) n within)) latches_of
 
     -- The row of position n, put into the table.
-    pub row_shown : (table' : List Bool) → length table' ≡ length table
+    pub row_shown : (table' : List Bool) → length table' ≡ ROWS
         → take (n * row_width + (W p + 1)) table'
         ≡ take (n * row_width) table ++ with_gates p.gates (false ∷ take (p.inputs + length p.latches) (get_or run n []))
         → RowsRight p (bytes p m) (n + 1) table'
-    unfolding values
+    unfolding values row_width inputs_limit latches_limit gates_limit bound_limit
     row_shown table' long e =
-        one_more_row to.values_right proper long (omega (arith, proper.bound_within))
+        one_more_row to.values_right proper (long ∙ sym to.values_right.room) (omega (arith, proper.bound_within))
         (rw given_of at e)
 
     -- Whether the row meets the constraints is whether the position does.

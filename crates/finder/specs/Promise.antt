@@ -10,7 +10,7 @@ use Rattle.problem.specs.Promise.{refusal_answer}
 use Rattle.finder.specs.declared.NotFound.{NotFound}
 use Rattle.finder.specs.declared.NotFound.TheVariants.{Problem, TooMuchOpen, RoomTooSmall, NoneExists}
 
--- The number and the place of each outcome.
+-- The number and the place of each refusal.
 abbrev pub not_found_answer : NotFound → Answer
 not_found_answer (Problem f) = refusal_answer f
 not_found_answer (TooMuchOpen n) = too_much_open n

@@ -1,5 +1,5 @@
 // The first bytes that make a run a witness.
-ghost use Rattle.std.specs.Prelude.{◌∷◌, ◌≡◌, ℕ, ◌+◌, ◌≤◌, length};
+ghost use Rattle.std.specs.Prelude.{◌∷◌, ◌≡◌, ℕ, ◌+◌, ◌≤◌};
 ghost use Rattle.finder.specs.Runs.{Shown, run_bytes};
 ghost use Rattle.finder.specs.Search.{judged, Lowest};
 
@@ -12,8 +12,13 @@ use values::rows::{POSITIONS, ROWS};
 
 // Whether the judge accepts the run with this first byte, "0 for a prefix or l + 1"; a loop that does not close costs no node.
 #[tactic(auto, unfolding(answers::specs::Limits::bound_limit))]
-fn is_witness(p: &Problem, run: &[[bool; GIVEN]; POSITIONS], table: &[bool], first: u32) -> bool
-    requires { (length table.now ≡ ROWS) × (first ≤ p.now.bound + 1) }
+fn is_witness(
+    p: &Problem,
+    run: &[[bool; GIVEN]; POSITIONS],
+    table: &[bool; ROWS],
+    first: u32,
+) -> bool
+    requires { first ≤ p.now.bound + 1 }
     ensures { result ≡ judged p.now run.now table.now first }
 {
     let first = first as usize;
@@ -30,10 +35,10 @@ fn is_witness(p: &Problem, run: &[[bool; GIVEN]; POSITIONS], table: &[bool], fir
 pub(crate) fn lowest(
     p: &Problem,
     run: &[[bool; GIVEN]; POSITIONS],
-    table: &[bool],
+    table: &[bool; ROWS],
     limit: u32,
 ) -> Option<u32>
-    requires { (length table.now ≡ ROWS) × (limit ≤ p.now.bound + 2) }
+    requires { limit ≤ p.now.bound + 2 }
     ensures { (m : ℕ) → Shown p.now m (p.now.bound + 1) run.now table.now → Lowest p.now (run_bytes p.now m) limit result }
 {
     (0..limit).find(|first| is_witness(p, run, table, *first))

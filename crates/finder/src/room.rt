@@ -11,7 +11,7 @@ use problem::good::Problem;
 use values::bytes::LATCHES_AT;
 use values::rows::POSITIONS;
 
-// Bits as bytes. One number goes through both lists, each from a place of its own.
+// Bits as bytes. One number goes through both lists, each from a place of its own: of `zip` it is not proved what the room holds afterwards.
 fn put(bits: &[bool], from: usize, count: usize, room: &mut [u8], at: usize)
     requires { (from + count ≤ length bits.now) × (at + count ≤ length room.old) }
     ensures { room.new ≡ paste room.old at (map byte_of (drop from bits.now)) count }

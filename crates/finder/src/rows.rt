@@ -12,8 +12,8 @@ use values::rows::{INPUTS_AT, POSITIONS, ROW_WIDTH, ROWS, copy, gates, meets_con
 
 // The row of a position.
 #[tactic(auto, unfolding(values::specs::Tables::row_width, answers::specs::Limits::inputs_limit, answers::specs::Limits::latches_limit, answers::specs::Limits::gates_limit))]
-pub(crate) fn row_of(table: &[bool], t: usize) -> &[bool]
-    requires { (t < POSITIONS) × (length table.now ≡ ROWS) }
+pub(crate) fn row_of(table: &[bool; ROWS], t: usize) -> &[bool]
+    requires { t < POSITIONS }
     ensures { result.now ≡ row_in table.now t }
 {
     let from = t * ROW_WIDTH;
@@ -22,8 +22,8 @@ pub(crate) fn row_of(table: &[bool], t: usize) -> &[bool]
 
 // The values at a position: variable 0, the bits of the run there, and the gates.
 #[tactic(auto, unfolding(answers::specs::Limits::bound_limit, answers::specs::Limits::inputs_limit, answers::specs::Limits::latches_limit))]
-fn row_values(p: &Problem, t: usize, row: &[bool], table: &mut [bool])
-    requires { (t < POSITIONS) × (length row.now ≡ GIVEN) × (length table.old ≡ ROWS) }
+fn row_values(p: &Problem, t: usize, row: &[bool], table: &mut [bool; ROWS])
+    requires { (t < POSITIONS) × (length row.now ≡ GIVEN) }
     ensures { take (t * row_width + (W p.now + 1)) table.new ≡ take (t * row_width) table.old ++ with_gates p.now.gates (false ∷ take (p.now.inputs + length p.now.latches) row.now) }
 {
     let from = t * ROW_WIDTH;
@@ -38,9 +38,9 @@ pub(crate) fn run_values(
     p: &Problem,
     m: u32,
     run: &mut [[bool; GIVEN]; POSITIONS],
-    table: &mut [bool],
+    table: &mut [bool; ROWS],
 ) -> bool
-    requires { Held run.old × (length table.old ≡ ROWS) }
+    requires { Held run.old }
     ensures { Held run.new × (result ≡ true → Shown p.now m (p.now.bound + 1) run.new table.new) × (result ≡ false → Broken p.now m) }
 {
     fill(p, m, run);

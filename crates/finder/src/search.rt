@@ -1,5 +1,5 @@
 // The search: the runs once, in rising order, each with the first bytes that are lower than the lowest found before.
-ghost use Rattle.std.specs.Prelude.{◌≡◌, ◌+◌, ◌≤◌, length};
+ghost use Rattle.std.specs.Prelude.{◌≡◌, ◌+◌, ◌≤◌};
 ghost use Rattle.finder.specs.Runs.{Held, run_bytes};
 ghost use Rattle.finder.specs.Search.{Lowest, BestOf};
 
@@ -22,9 +22,9 @@ fn tried(
     m: u32,
     limit: u32,
     run: &mut [[bool; GIVEN]; POSITIONS],
-    table: &mut [bool],
+    table: &mut [bool; ROWS],
 ) -> Option<u32>
-    requires { (limit ≤ p.now.bound + 2) × Held run.old × (length table.old ≡ ROWS) }
+    requires { (limit ≤ p.now.bound + 2) × Held run.old }
     ensures { Lowest p.now (run_bytes p.now m) limit result × Held run.new }
 {
     if !run_values(p, m, run, table) {

@@ -75,9 +75,6 @@ each_alone : (cs : List Check) (after : Answer) → first_failing_part (map (λ 
 each_alone [] after = refl
 each_alone (c ∷ cs) after = rw (each_alone cs after)
 
-pub as_one : (cs : List Check) {A : Type 0} {r : Result A Refusal} → Answers (map (λ (c : Check). c ∷ []) cs) r → Answers (cs ∷ []) r
-as_one cs a = record { answered = λ after. a.answered after ∙ each_alone cs after }
-
 -- ════════ A loop over numbers ════════
 
 -- Before i all checks passed: what answers those from i on answers all.

@@ -52,7 +52,7 @@ impl<'a> Problem<'a> {
         &self.shown
     }
 
-    // I, L, A, D, N and k.
+    // I, L, A, D, N and k. Each also tells that the problem is proper, which `Shown` does not know.
     pub fn inputs(&self) -> u32
         ensures is { result ≡ self.now.inputs }
         ensures proper { Proper self.now }

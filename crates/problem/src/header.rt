@@ -42,7 +42,7 @@ pub fn known_version(version: u32) -> bool
     header_words(version).is_some()
 }
 
-// A later version's word of the header; one that the header does not have is 0.
+// A later version's word of the header; one that the header does not have is 0, as the definition has it, and no None.
 pub(crate) fn header_word(version: u32, words: &[u32], at: usize) -> u32
     ensures { result ≡ header_word version words.now at }
 {

@@ -82,7 +82,7 @@ impl<'a> Shown<'a> {
         self.outline.bound
     }
 
-    // The parts by their numbers; past the end each is what the definitions have there.
+    // The parts by their numbers; past the end each is what the definitions have there. No two are one function: list, place and default differ.
     pub fn latch_next(&self, i: u32) -> u32
         ensures { result ≡ (latch self.now i).next }
     {

@@ -3,7 +3,7 @@
 // A read that fails after some bytes fails the whole reading, and a call that a signal interrupts counts as one that failed.
 #![tactic(auto)]
 
-ghost use Rattle.std.specs.Prelude.{◌-◌, ◌≤◌, min, length};
+ghost use Rattle.std.specs.Prelude.{◌≡◌, ◌-◌, ◌≤◌, min, length, MatchResult};
 ghost use Rattle.reading.specs.Filled.{Within, Put, Filled};
 ghost use Rattle.reading.specs.Known.{Given, AllGiven};
 
@@ -14,13 +14,23 @@ use text::put::put_bytes;
 // How many bytes one read is lent.
 const CHUNK_BYTES: usize = 4096;
 
-// One read; the whole part is lent to it, and no more is taken for read.
+// What a read answers of so many bytes that it was lent: a good read stays one, and no more is taken for read; an error stays that error.
+fn taken(got: io::Result<usize>, most: usize) -> io::Result<usize>
+    ensures { MatchResult got (λ n. result ≡ Ok (min n most)) (λ e. result ≡ Err e) }
+{
+    match got {
+        Ok(n) => Ok(n.min(most)),
+        Err(e) => Err(e),
+    }
+}
+
+// One read; the whole part is lent to it.
 fn read_part<R: Read>(input: &mut R, part: &mut [u8]) -> io::Result<usize>
     ensures within { Within (length part.old) result }
     ensures given { Given (R.remaining input.old) (R.remaining input.new) result (length part.old) part.new }
 {
-    let count = input.read(part)?;
-    Ok(count.min(part.len()))
+    let got = input.read(part);
+    taken(got, part.len())
 }
 
 // One read into the buffer, from `at` on. It goes by way of a chunk, so that no byte changes past those that were read.

@@ -46,7 +46,7 @@ fn word_right(limit: usize, clauses: usize, steps: usize, hinting: bool, w: i32)
     }
 }
 
-// 11: the first bad word, then cut short; else the number of steps.
+// 11: the first bad word, then cut short; else the number of steps. No twin of `count_clauses`: what is asked of a word is not the same.
 pub fn count_steps(variables: u32, clauses: usize, refutation: &[i32]) -> Result<usize, usize>
     ensures { StepsCounted variables clauses refutation.now result }
 {

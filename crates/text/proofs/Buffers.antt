@@ -3,12 +3,11 @@ use mathlib.Core.Path.{◌≡◌, refl, sym, ◌∙◌, ap}
 use mathlib.Core.Bool.{true}
 use mathlib.Core.List.{List, [], ◌∷◌, ◌++◌}
 use Prim.Native.Nat.{ℕ, ◌+◌, ◌*◌, ◌^◌, ◌≤◌, ◌<◌, min}
-use native.Mathlib.Nat.{add-zero}
 use native.Mathlib.Numerals.{add-one}
 use native.Mathlib.Omega.{arith}
 use borrow.Author.Tests.{le-leb}
 use lib.Dec.{leb}
-use lib.ListN.{length, get_or, take, set, length-append, take-append-drop}
+use lib.ListN.{length, get_or, take, set, length-append}
 use lib.Seq.{take-suc, length-take-le, drop-drop}
 use Rattle.answers.proofs.PutAt.{put_at, put_at_one, put_at_length, put_at_then}
 use Rattle.text.specs.Promise.{placed, largest_size, Puts}
@@ -39,9 +38,6 @@ module _ (at : ℕ) (o : List ℕ) where
 pub record Put (text : List ℕ) (at : ℕ) (old : List ℕ) (next : ℕ) (new : List ℕ) : Type 0 where
   pub after : next ≡ at + length text
   pub held : new ≡ placed text at old
-
-pub put_none : (at : ℕ) (o : List ℕ) → Put [] at o at o
-put_none at o = record { after = sym (add-zero at); held = sym (take-append-drop at o) }
 
 pub put_byte : (b at : ℕ) (o : List ℕ) → at < length o → Put (b ∷ []) at o (at + 1) (set o at b)
 put_byte b at o h = record { after = refl; held = placed_one b at o h }

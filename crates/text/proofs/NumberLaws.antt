@@ -127,15 +127,6 @@ pub decimal_one_word : (n : ℕ) → one_word (decimal n) ≡ true
 decimal_one_word n =
     all_of_weaker is_digit (λ b. not (parts b)) digit_parts_not (decimal n) (decimal_digits n)
 
--- What stands after a word begins with no word.
-pub word_of_past : (t : List ℕ) → word_of (past_word t) ≡ []
-word_of_past [] = refl
-word_of_past (b ∷ t) = go (parts b) refl (word_of_past t)
-  where
-    go : (p : Bool) → parts b ≡ p → word_of (past_word t) ≡ [] → word_of (past_word (b ∷ t)) ≡ []
-    go true e past = rw (e, e)
-    go false e past = rw e past
-
 pub word_and_past : (t : List ℕ) → word_of t ++ past_word t ≡ t
 word_and_past [] = refl
 word_and_past (b ∷ t) = go (parts b) refl (word_and_past t)

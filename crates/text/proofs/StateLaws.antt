@@ -1,13 +1,10 @@
 -- Laws of the state of a word: what it says of the word, and which tests of it are tests of the word's number. Assumes nothing.
 use mathlib.Core.Path.{◌≡◌, refl, sym, ◌∙◌, ap}
-use mathlib.Core.Bool.{Bool, true, false, not, ◌&&◌, ◌||◌}
+use mathlib.Core.Bool.{Bool, true, false}
 use mathlib.Core.List.{List, [], ◌∷◌}
 use Prim.Native.Nat.{ℕ, suc, ◌+◌, ◌≤◌, ◌<◌}
 use native.Mathlib.Omega.{arith}
-use borrow.Author.Tests.{ltb-true, lt-ltb, leb-true, le-leb, leb-false, lt-leb, le-ltb, eqb-true, eq-eqb, ne_eqb}
-use lib.Dec.{leb, ltb, eqb}
 use Rattle.answers.specs.Lists.{empty}
-use Rattle.answers.proofs.Tests.{both_true, first_true, second_true, false_if_not_true}
 use Rattle.text.specs.Numbers.{decimal, value, is_number}
 use Rattle.answers.specs.Limits.{largest_number}
 use Rattle.text.specs.Promise.{no_number, scanned}
@@ -60,49 +57,3 @@ same_tests {a = true} {b = true} p q = refl
 same_tests {a = true} {b = false} p q = sym (p refl)
 same_tests {a = false} {b = true} p q = q refl
 same_tests {a = false} {b = false} p q = refl
-
--- The number that is known.
-pub exact_by_state : (w : List ℕ) (n : ℕ) → eqb (scanned w) (n + 1) && ltb (n + 1) no_number ≡ is_number w && eqb (value w) n
-exact_by_state w n = go (scanned_as w)
-  where
-    go : Scanned w → eqb (scanned w) (n + 1) && ltb (n + 1) no_number ≡ is_number w && eqb (value w) n
-    go (as_none e z m) = rw (z, m, ne_eqb 0 (n + 1) (λ q. omega arith))
-    go (as_number m l z) =
-        rw (z, m)
-        (same_tests
-        (λ t.
-        let q : suc (value w) ≡ n + 1 =
-        eqb-true (suc (value w)) (n + 1) (first_true (eqb (suc (value w)) (n + 1)) (ltb (n + 1) no_number) t) in
-        eq-eqb (value w) n (omega arith))
-        (λ t.
-        let q : value w ≡ n = eqb-true (value w) n t in
-        both_true (eq-eqb (suc (value w)) (n + 1) (omega arith)) (lt-ltb (n + 1) no_number (omega arith))))
-    go (as_other m z) =
-        rw (z, m)
-        (false_if_not_true
-        (eqb no_number (n + 1) && ltb (n + 1) no_number)
-        (λ t.
-        let q : no_number ≡ n + 1 =
-        eqb-true no_number (n + 1) (first_true (eqb no_number (n + 1)) (ltb (n + 1) no_number) t) in
-        let l : n + 1 < no_number =
-        ltb-true (n + 1) no_number (second_true (eqb no_number (n + 1)) (ltb (n + 1) no_number) t) in
-        omega arith))
-
--- A number up to m, by what it is not.
-pub outside_by_state : (w : List ℕ) (m : ℕ)
-    → eqb (scanned w) 0 || leb no_number (scanned w) || ltb (m + 1) (scanned w) ≡ not (is_number w && leb (value w) m)
-outside_by_state w m = go (scanned_as w)
-  where
-    go : Scanned w
-        → eqb (scanned w) 0 || leb no_number (scanned w) || ltb (m + 1) (scanned w) ≡ not (is_number w && leb (value w) m)
-    go (as_none e z n) = rw (z, n)
-    go (as_number n l z) =
-        rw (z, n, ne_eqb (suc (value w)) 0 (λ q. omega arith), lt-leb no_number (suc (value w)) (omega arith))
-        (turned (leb (value w) m) refl)
-      where
-        turned : (t : Bool) → leb (value w) m ≡ t → ltb (m + 1) (suc (value w)) ≡ not (leb (value w) m)
-        turned true e =
-            let h : value w ≤ m = leb-true (value w) m e in rw (e, le-ltb (m + 1) (suc (value w)) (omega arith))
-        turned false e =
-            let h : m < value w = leb-false (value w) m e in rw (e, lt-ltb (m + 1) (suc (value w)) (omega arith))
-    go (as_other n z) = rw (z, n, ne_eqb no_number 0 (λ q. omega arith), le-leb no_number no_number (omega arith))

@@ -33,7 +33,7 @@ pub fn digits(n: usize) -> usize
     n.ilog10() as usize + 1
 }
 
-// The digits into the bytes that they need, the last one first.
+// The digits into the bytes that they need, the last one first. By their places: the first is written apart, which no chain says plainer.
 fn fill_digits(n: usize, out: &mut [u8])
     requires { length out.old ≡ length (decimal n) }
     ensures { out.new ≡ decimal n }

@@ -5,7 +5,8 @@ ghost use Rattle.text.specs.Promise.{state_after, WordAt};
 
 use answers::limits::LARGEST_NUMBER;
 
-// The states of a word: no byte yet; one more than the number that it is; no number. No enum, so that one test tells for most bytes.
+// The states of a word: no byte yet; one more than the number that it is; no number. Numbers and no enum: `state_after` promises the
+// state after any of them, and one test tells for most bytes.
 pub const NO_BYTE: u64 = 0;
 
 pub const NO_NUMBER: u64 = LARGEST_NUMBER + 2;

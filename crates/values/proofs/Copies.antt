@@ -41,14 +41,6 @@ sets_there l at xs {n} e h =
     let before : length (take at l) ≡ at = length-take-le at l (omega arith) in
     rw (sets-eq xs l at room) (take_at (take at l ++ xs) (drop (at + length xs) l) (at + n) (simp (length-append, before) (omega arith)))
 
--- So they do where they are put into a list of their own first, and copied from it.
-pub copied_there : (table l : List Bool) (at : ℕ) (xs : List Bool) {n : ℕ} → length xs ≡ n → n ≤ length l → at + n ≤ length table
-    → {next table' : List Bool} → next ≡ sets l 0 xs → table' ≡ sets table at (take n next) → take (at + n) table' ≡ take at table ++ xs
-copied_there table l at xs {n} e room fits put copied =
-    let none : 0 + n ≡ n = omega arith in
-    let first : take n (sets l 0 xs) ≡ xs = rw none at (sets_there l 0 xs e (omega arith)) in
-    rw (copied, put, first) (sets_there table at xs e fits)
-
 -- ════════ One after another ════════
 
 -- The first i of xs are put: those after them make of the list what all make of the list before.

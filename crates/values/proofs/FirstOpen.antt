@@ -3,7 +3,6 @@ use Rattle.std.proofs.Common.{◌≡◌, ℕ, zero, suc, ◌+◌, ◌-◌, ◌*�
 use native.Mathlib.Decide.{dec_lt}
 use lib.ListN.{get_or-eq_default}
 use Rattle.meaning.specs.Problem.{Problem}
-use Rattle.meaning.specs.Proper.{Proper}
 use Rattle.answers.specs.Lists.{numbers, all_of}
 use Rattle.answers.specs.Limits.{inputs_limit, latches_limit, bound_limit}
 use Rattle.meaning.specs.Witnesses.{witness_length}
@@ -101,9 +100,9 @@ module _ (p : Problem) (row there : List Bool) (at : ℕ) {k : ℕ} (from : k �
 
 -- ════════ The length of a witness ════════
 
-pub length_is : {p : Problem} → Proper p → length_of p ≡ witness_length p
+pub length_is : (p : Problem) → p.inputs ≤ inputs_limit → length p.latches ≤ latches_limit → p.bound ≤ bound_limit → length_of p ≡ witness_length p
 unfolding inputs_limit latches_limit bound_limit length_of
-length_is {p} proper =
-    let positions : p.bound + 1 ≤ bound_limit + 1 = omega (arith, proper.bound_within) in
-    let few : p.inputs * (p.bound + 1) ≤ inputs_limit * (bound_limit + 1) = mul-le-mul proper.inputs_within positions in
-    mod-eq_of_lt {n = 1 + (length p.latches + p.inputs * (p.bound + 1))} {m = 2 ^ 64} (omega (arith, proper.latches_within)) ∙ omega arith
+length_is p i l b =
+    let positions : p.bound + 1 ≤ bound_limit + 1 = omega arith in
+    let few : p.inputs * (p.bound + 1) ≤ inputs_limit * (bound_limit + 1) = mul-le-mul i positions in
+    mod-eq_of_lt {n = 1 + (length p.latches + p.inputs * (p.bound + 1))} {m = 2 ^ 64} (omega arith) ∙ omega arith

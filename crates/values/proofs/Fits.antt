@@ -9,7 +9,7 @@ use Rattle.answers.specs.Limits.{inputs_limit, latches_limit, gates_limit, nodes
 use Rattle.meaning.specs.Problem.{Problem, Left, Node, node, constant, child, atom, both, either, next, until, release}
 use Rattle.meaning.specs.Proper.{LeftProper}
 use Rattle.meaning.specs.Formulas.{formula}
-use Rattle.meaning.specs.Bounded.{Shape, lasso}
+use Rattle.meaning.specs.Bounded.{Shape}
 use Rattle.meaning.specs.LassoValue.{bounded_value}
 use Rattle.meaning.specs.Witnesses.{shape_of}
 use Rattle.meaning.proofs.Numbers.{all_of_numbers, all_of_numbers_if}
@@ -175,11 +175,6 @@ ready_if_fit p run last_is nodes rows = record {
     go (Some l) h = h l refl
 
 -- ════════ The first byte ════════
-
--- "0 for a prefix or l + 1"
-pub shape_later : (b : ℕ) → (b ≡ 0 → ⊥) → shape_of b ≡ lasso (b - 1)
-shape_later zero some = absurd (some refl)
-shape_later (suc b) some = let e : suc b - 1 ≡ b = omega arith in rw e
 
 pub shape_given : (start : Option ℕ) (b : ℕ) → SomeIff start (1 ≤ b) (b - 1) → shape_of b ≡ shape_at start
 shape_given None zero given = refl

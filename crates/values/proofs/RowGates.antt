@@ -43,9 +43,6 @@ module _ {gs : List Gate} {at : ℕ} where
           rw (put, next, add-one j) (rw (drop-cons gs j (record { left = 0; right = 0 }) l) at to.rest);
     }
 
-    pub more_gates : {k end : ℕ} {row' : List Bool} → GatesTo gs at j row k row' → k ≡ end → GatesTo gs at j₀ row₀ end row'
-    more_gates more e = rw (← e) (record { long = more.long ∙ to.long; rest = more.rest ∙ to.rest })
-
   -- Those that have room are all that change something.
   pub all_gates : {row₀ : List Bool} {j : ℕ} {row : List Bool} → GatesTo gs at 0 row₀ j row → min (length gs) (length row₀ - at) ≤ j
       → row ≡ gates_put gs at row₀

@@ -13,7 +13,8 @@ use problem::Outline;
 use problem::read::{gate_place, word_at};
 use problem::shown::Shown;
 
-// A row has a value for each of the variables 0..W, whatever W is, and a table a row for each position.
+// A row has a value for each of the variables 0..W, whatever W is, and a table a row for each position. It is one list, since
+// `formula_value` promises an answer for a table of any length.
 pub const ROW_WIDTH: usize = 1 + (INPUTS_LIMIT + LATCHES_LIMIT + GATES_LIMIT) as usize;
 
 pub const POSITIONS: usize = BOUND_LIMIT as usize + 1;

@@ -13,7 +13,7 @@ use values::rows::{INPUTS_AT, ROW_WIDTH, gates};
 // "bytes are 0 or 1"
 pub(crate) const TRUE: u8 = 1;
 
-// Bytes as values: a byte is true exactly if it is 1.
+// Bytes as values: a byte is true exactly if it is 1. By a place, since of `zip` it is not proved what the values are afterwards.
 fn copy_bits(bytes: &[u8], values: &mut [bool])
     requires { length values.old ≡ length bytes.now }
     ensures { values.new ≡ bits bytes.now }

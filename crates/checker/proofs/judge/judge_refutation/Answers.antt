@@ -1,5 +1,4 @@
 -- `judge_refutation` meets its contract: a refusal before the CNF is written changes nothing, and then the steps are judged. Assumes nothing.
-use Rattle.std.proofs.Common.{◌≡◌, sym}
 use Rattle.std.proofs.lemmas.Result.{err_from_is_err_and}
 use Rattle.meaning.specs.Problem.{problem}
 use Rattle.checker.proofs.ProblemRefutation.{refused_before, cnf_held, steps_answered}

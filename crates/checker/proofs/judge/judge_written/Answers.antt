@@ -1,5 +1,5 @@
 -- `judge_written` meets its contract: the CNF is the first words of the room. Assumes nothing.
-use Rattle.std.proofs.Common.{◌≡◌, arith}
+use Rattle.std.proofs.Common.{arith}
 use Rattle.answers.specs.Limits.{variables_limit}
 use Rattle.checker.proofs.ProblemRefutation.{variables_few, judged_for, lifted_is}
 use Rattle.checker.proofs.judge.judge_written.Goals as goal

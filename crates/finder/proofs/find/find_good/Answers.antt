@@ -13,26 +13,26 @@ returns-then-bits-gt-SEARCH_LIMIT c = too_much c.args.p.now c.open_bytes-bits.en
 pub returns-then-room-needed : goal.returns-then-room-needed
 unfolding search_limit
 returns-then-room-needed c =
-    let needed = (rw c.shown.ensures.is at c.witness_length-needed.ensures) ∙ length_is c.shown.ensures.proper in
+    let needed = (rw c.shown.ensures.is at c.witness_length-needed.ensures) ∙ length_is _ c.shown.ensures.proper.inputs_within c.shown.ensures.proper.latches_within c.shown.ensures.proper.bound_within in
     too_small c.args.p.now c.open_bytes-bits.ensures c.if-bits-gt-SEARCH_LIMIT.false needed c.if-room-needed.true
 
 pub returns-in_default : goal.returns-in_default
 unfolding search_limit
 returns-in_default c =
-    let needed = (rw c.shown.ensures.is at c.witness_length-needed.ensures) ∙ length_is c.shown.ensures.proper in
+    let needed = (rw c.shown.ensures.is at c.witness_length-needed.ensures) ∙ length_is _ c.shown.ensures.proper.inputs_within c.shown.ensures.proper.latches_within c.shown.ensures.proper.bound_within in
     let runs = all_runs c.open_bytes-bits.ensures c.if-bits-gt-SEARCH_LIMIT.false in
     let none = none_found c.args.p.now c.args.room.now (best_is_none c.shown.ensures.proper (rw runs at c.in_default.ensures)) in
     searched c.args.p.now c.open_bytes-bits.ensures c.if-bits-gt-SEARCH_LIMIT.false needed c.if-room-needed.false none.0 none.1
 
 pub write-requires : goal.write-requires
 write-requires c =
-    let needed = (rw c.shown.ensures.is at c.witness_length-needed.ensures) ∙ length_is c.shown.ensures.proper in
+    let needed = (rw c.shown.ensures.is at c.witness_length-needed.ensures) ∙ length_is _ c.shown.ensures.proper.inputs_within c.shown.ensures.proper.latches_within c.shown.ensures.proper.bound_within in
     (c.in-Some.ensures.within, omega (arith, needed, c.if-room-needed.false))
 
 pub returns : goal.returns
 unfolding search_limit
 returns c =
-    let needed = (rw c.shown.ensures.is at c.witness_length-needed.ensures) ∙ length_is c.shown.ensures.proper in
+    let needed = (rw c.shown.ensures.is at c.witness_length-needed.ensures) ∙ length_is _ c.shown.ensures.proper.inputs_within c.shown.ensures.proper.latches_within c.shown.ensures.proper.bound_within in
     let runs = all_runs c.open_bytes-bits.ensures c.if-bits-gt-SEARCH_LIMIT.false in
     let first = best_is_first c.shown.ensures.proper (rw runs at c.in-Some.ensures) in
     let one = one_found c.args.p.now c.args.room.now first.1 needed c.write.ensures in

@@ -9,6 +9,6 @@ use Rattle.finder.proofs.first.lowest.Goals as goal
 pub returns : goal.returns
 returns c m shown =
     let test : ℕ → Bool = λ b. judged c.args.p.now c.args.run.now c.args.table.now b in
-    lowest_of shown c.requires.1 c.find.result
+    lowest_of shown c.requires c.find.result
     (first_from_Range _ _ _ c.find.result (λ b. test b ≡ true) (λ b. test b ≡ false) c.find.ensures.ran
     (λ x q k. search (rules, tests)) (λ x q k. search (rules, tests)))

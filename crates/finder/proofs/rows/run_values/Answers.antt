@@ -1,21 +1,18 @@
 -- A position's row is right, it meets the constraints or breaks one, and the next position's latches are put. Assumes nothing.
 use Rattle.std.proofs.Common.{◌+◌, ◌≤◌, sym, ◌∙◌, true≢false, arith}
-use Rattle.answers.specs.Limits.{inputs_limit, latches_limit, gates_limit, bound_limit}
-use Rattle.values.specs.Tables.{row_width}
 use Rattle.finder.proofs.RunValues.{RunTo, none_shown, all_shown, row_shown, row_meets, broken_here, last_shown, next_shown}
 use Rattle.finder.proofs.rows.run_values.Goals as goal
 use Rattle.finder.proofs.rows.run_values.Goals.{then-t-last, else-t-last}
 
 pub loop-t-init : goal.loop-t-init
-unfolding row_width inputs_limit latches_limit gates_limit bound_limit
-loop-t-init c = none_shown c.fill.ensures c.requires.1
+loop-t-init c = none_shown c.fill.ensures c.told-table
 
 pub returns-then-not-meets_constraints : goal.returns-then-not-meets_constraints
 returns-then-not-meets_constraints c =
     let to = c.loop-t.invariant in
     let proper = c.shown.ensures.proper in
     let here : c.loop-t.t ≤ c.args.p.now.bound = omega (arith, c.bound-last.ensures.is) in
-    let right = row_shown proper to here c.row_values.new.table c.row_values.auto.table c.row_values.ensures in
+    let right = row_shown proper to here c.row_values.new.table c.row_values.array_long c.row_values.ensures in
     let met = row_meets proper to here right (rw (c.shown.ensures.is, c.row_of-row.ensures) at c.meets_constraints.ensures) in
     (to.held, λ e. absurd (true≢false (sym e)), λ e. broken_here proper to here (sym met ∙ c.if-not-meets_constraints.true))
 
@@ -24,7 +21,7 @@ loop-t-preserved c =
     let to = c.loop-t.invariant in
     let proper = c.shown.ensures.proper in
     let here : c.loop-t.t ≤ c.args.p.now.bound = omega (arith, c.bound-last.ensures.is) in
-    let right = row_shown proper to here c.row_values.new.table c.row_values.auto.table c.row_values.ensures in
+    let right = row_shown proper to here c.row_values.new.table c.row_values.array_long c.row_values.ensures in
     let met = sym (row_meets proper to here right (rw (c.shown.ensures.is, c.row_of-row.ensures) at c.meets_constraints.ensures)) ∙ c.if-not-meets_constraints.false in
     elim c.if-t-last.branch [
       | then-t-last w ↦
@@ -38,7 +35,7 @@ returns-after-t-last c =
     let to = c.loop-t.invariant in
     let proper = c.shown.ensures.proper in
     let here : c.loop-t.t ≤ c.args.p.now.bound = omega (arith, c.bound-last.ensures.is) in
-    let right = row_shown proper to here c.row_values.new.table c.row_values.auto.table c.row_values.ensures in
+    let right = row_shown proper to here c.row_values.new.table c.row_values.array_long c.row_values.ensures in
     let met = sym (row_meets proper to here right (rw (c.shown.ensures.is, c.row_of-row.ensures) at c.meets_constraints.ensures)) ∙ c.if-not-meets_constraints.false in
     let all : RunTo c.args.p.now c.args.m (c.loop-t.t + 1) c.if-t-last.run c.row_values.new.table = elim c.if-t-last.branch [
       | then-t-last w ↦ absurd (omega arith)
