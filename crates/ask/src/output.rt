@@ -42,9 +42,10 @@ impl<'a, P: Print> Lines<'a, P> {
         }
     }
 
-    // The line that opens an answer.
+    // The line that opens an answer. Both numbers are of one type, and no item's: what prints a type in one place alone is compiled into it,
+    // and the words of a room were printed in half the time so.
     pub(crate) fn answer(&mut self, answer: Answer) {
-        let _ = writeln!(self, "{} {}", answer.number, answer.place);
+        let _ = writeln!(self, "{} {}", answer.number as usize, answer.place);
     }
 
     // A line with the items of a buffer.

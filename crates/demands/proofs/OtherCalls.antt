@@ -3,7 +3,7 @@
 use mathlib.Core.{Path.◌≡◌, List.List}
 use Prim.Native.Nat.{ℕ}
 use lib.{IntN.ℤ}
-use Rattle.std.specs.Prelude.{Result}
+use Rattle.std.specs.Prelude.{Result, IfOk}
 use Rattle.answers.specs.Answers.{Check}
 use Rattle.refutation.specs.Promise.{StepsCounted}
 use Rattle.problem.specs.declared.Node.{Node}
@@ -29,9 +29,13 @@ printed_unique = Rattle.job_file.proofs.Unique.printed_unique
 pub node_unique : (r r' : Node) → node_read r ≡ node_read r' → r ≡ r'
 node_unique = Rattle.problem.proofs.Unique.node_unique
 
--- A part of the check, of a problem's words or of a circuit's, and two parts joined.
+-- A part of the check, of a problem's words or of a circuit's; one that hands on what it read, as a circuit's sizes; and two parts joined.
 pub part_unique : {ps : List (List Check)} (r r' : Result Unit Refusal) → Answers ps r → Answers ps r' → r ≡ r'
 part_unique = Rattle.problem.proofs.Unique.answers_unique
+
+pub value_unique : {A : Type 0} {ps : List (List Check)} (x : A) (r r' : Result A Refusal)
+    → Answers ps r → IfOk r (λ y. y ≡ x) → Answers ps r' → IfOk r' (λ y. y ≡ x) → r ≡ r'
+value_unique = Rattle.problem.proofs.Unique.value_unique
 
 pub joined_unique : (first second r r' : Result Unit Refusal) → Joined first second r → Joined first second r' → r ≡ r'
 joined_unique = Rattle.problem.proofs.Unique.joined_unique

@@ -12,17 +12,17 @@ use Rattle.encoder.specs.declared.forms.OpForm.{OpForm}
 use Rattle.encoder.specs.ItemParts.{form_over, form_clauses, FormOf}
 
 module _ (p : Problem) (n i : ℕ) where
-  has_form : (x : Node) → p_clauses p n x i ≡ form_clauses p (P p n i) x i (P p n (i + 1))
-  has_form (atom a) = refl
-  has_form (both a b) = refl
-  has_form (either a b) = refl
-  has_form (next a) = refl
-  has_form (until a b) = refl
-  has_form (release a b) = refl
+  pub p_has_form : (x : Node) → p_clauses p n x i ≡ form_clauses p (P p n i) x i (P p n (i + 1))
+  p_has_form (atom a) = refl
+  p_has_form (both a b) = refl
+  p_has_form (either a b) = refl
+  p_has_form (next a) = refl
+  p_has_form (until a b) = refl
+  p_has_form (release a b) = refl
 
 module _ {p : Problem} {i : ℕ} {f : OpForm} (n : ℕ) where
-  pub p_has_form : {x : Node} → FormOf p x i f → p_clauses p n x i ≡ form_over f (P p n i) (P p n (i + 1))
-  p_has_form {x} h = has_form p n i x ∙ sym (h.is _ _)
+  pub p_by_form : {x : Node} → FormOf p x i f → p_clauses p n x i ≡ form_over f (P p n i) (P p n (i + 1))
+  p_by_form {x} h = p_has_form p n i x ∙ sym (h.is _ _)
 
   -- Q of U and R has the same form.
   pub q_has_form : (x : code.Node) → ((a : Left) × (b : ℕ) × (x ≡ Until a b)) ⊎ ((a : Left) × (b : ℕ) × (x ≡ Release a b)) → FormOf p (node_read x) i f

@@ -38,7 +38,7 @@ pub fn write_problem(p: &Problem, room: &mut [i32]) -> Result<Counts, NotWritten
     if room.len() < numbers.words {
         return Err(NotWritten::RoomTooSmall(numbers.words));
     }
-    all_items(p, room);
+    all_items(&p.held(), room);
     Ok(numbers)
 }
 

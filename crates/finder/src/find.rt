@@ -22,7 +22,7 @@ fn find_good(p: &Problem, room: &mut [u8]) -> Result<usize, NotFound>
     if room.len() < needed {
         return Err(NotFound::RoomTooSmall(needed));
     }
-    let Some(best) = search(p, 1 << bits) else {
+    let Some(best) = search(&p.held(), 1 << bits) else {
         return Err(NotFound::NoneExists);
     };
     write(p, best, room);

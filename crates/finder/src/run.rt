@@ -5,7 +5,7 @@ ghost use Rattle.finder.specs.Runs.{Held, Filled, digit, resets, bytes_by, bit};
 
 use answers::limits::{INPUTS_LIMIT, LATCHES_LIMIT};
 use problem::good::Problem;
-use problem::read::FREE;
+use problem::read::{FREE, latch_place, word_at};
 use values::rows::POSITIONS;
 
 // A bit for each input and each latch of a position, however many there are.
@@ -44,10 +44,11 @@ fn latches_by(p: &Problem, digits: u32, row: &mut [bool])
     requires { length row.old ≡ GIVEN }
     ensures { ((i : ℕ) → i < length p.now.latches → get_or row.new (p.now.inputs + i) false ≡ eqb (byte (bytes_by (resets p.now) digits) i) 1) × ((i : ℕ) → i < p.now.inputs → get_or row.new i false ≡ get_or row.old i false) }
 {
+    let (words, s) = p.shown().parts();
     let mut rest = digits;
     for i in (0..p.latches()).rev() {
         let at = (p.inputs() + i) as usize;
-        let reset = p.shown().latch_reset(i);
+        let reset = word_at(words, latch_place(s, i) + 1);
         if reset == FREE {
             row[at] = rest % 2 == 1;
             rest /= 2;

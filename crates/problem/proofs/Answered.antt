@@ -18,6 +18,10 @@ use Rattle.problem.specs.CheckParts.{Answers, Joined}
 
 -- ════════ One check after another ════════
 
+-- What answers for some parts also does under another name.
+pub answers_by : {A : Type 0} {ps : List (List Check)} {r r' : Result A Refusal} → r ≡ r' → Answers ps r → Answers ps r'
+answers_by e a = rw e at a
+
 -- Of a part whose checks are these, the first passes: the others are left.
 module _ {A : Type 0} {a : Answer} {cs : List Check} {b : Bool} where
   pub pass : {r : Result A Refusal} → b ≡ true → Answers (cs ∷ []) r → Answers ((check b a ∷ cs) ∷ []) r
@@ -67,13 +71,21 @@ module _ {A B : Type 0} {c : Check} {cs : List Check} where
   pub check_refuses : {f : Refusal} → Answers {A = A} ((c ∷ []) ∷ []) (Err f) → Answers {A = B} ((c ∷ cs) ∷ []) (Err f)
   check_refuses a = one_part (c ∷ []) cs (part_refuses a)
 
+-- A check of a part and those left, joined by `then`.
+pub checks_joined : {c : Check} {cs : List Check} {first second r : Result ⊤ Refusal}
+    → Joined first second r → Answers ((c ∷ []) ∷ []) first → Answers (cs ∷ []) second → Answers ((c ∷ cs) ∷ []) r
+checks_joined {c} {cs} j a b = one_part (c ∷ []) cs (j.answers ((c ∷ []) ∷ []) (cs ∷ []) a b)
+
 -- What a part goes by, one check after another.
-pub ruleset one_by_one = (at_refusal, check_passes, check_refuses, pass, fail, all_pass)
+pub ruleset one_by_one = (at_refusal, check_passes, check_refuses, checks_joined, pass, fail, all_pass)
 
 -- Checks, each of them a part, as one.
 each_alone : (cs : List Check) (after : Answer) → first_failing_part (map (λ (c : Check). c ∷ []) cs) after ≡ first_failing cs after
 each_alone [] after = refl
 each_alone (c ∷ cs) after = rw (each_alone cs after)
+
+pub as_one : (cs : List Check) {A : Type 0} {r : Result A Refusal} → Answers (map (λ (c : Check). c ∷ []) cs) r → Answers (cs ∷ []) r
+as_one cs a = record { answered = λ after. a.answered after ∙ each_alone cs after }
 
 -- ════════ A loop over numbers ════════
 

@@ -13,7 +13,7 @@ use Rattle.problem.specs.declared.Outline.{Outline}
 use Rattle.problem.specs.declared.ProblemRecord.{ProblemRecord}
 use Rattle.problem.specs.declared.Refusal.{Refusal}
 use Rattle.problem.specs.declared.Refusal.TheVariants.{BadVersion, BadLength, OutsideLimits, BadReset, BadLiteral, BadNode}
-use Rattle.std.specs.Prelude.{Result, Ok, Err, ⊤}
+use Rattle.std.specs.Prelude.{Result, Ok, Err, IfOk, ⊤}
 use Rattle.problem.specs.declared.Left.{Left}
 use Rattle.problem.specs.declared.Left.TheVariants.{Constant, Child}
 use Rattle.problem.specs.declared.Node.{Node}
@@ -52,15 +52,26 @@ refusal_not_yes (BadNode i) e = omega arith
 
 -- ════════ The parts of a check ════════
 
--- Two answers that hand on, or refuse, whatever comes after, are one.
-same_part : (r r' : Result ⊤ Refusal) → ((after : Answer) → answer_then r after ≡ answer_then r' after) → r ≡ r'
-same_part (Ok x) (Ok x') e = refl
-same_part (Ok x) (Err f) e = absurd (refusal_not_yes f (number_of (sym (e (granted 0)))))
-same_part (Err f) (Ok x) e = absurd (refusal_not_yes f (number_of (e (granted 0))))
-same_part (Err f) (Err f') e = ap Err (refusal_unique f f' (e (granted 0)))
+-- Two answers that hand on, or refuse, whatever comes after, are one, where what they hand on is one.
+same_part : {A : Type 0} (x : A) (r r' : Result A Refusal) → IfOk r (λ y. y ≡ x) → IfOk r' (λ y. y ≡ x)
+    → ((after : Answer) → answer_then r after ≡ answer_then r' after) → r ≡ r'
+same_part x (Ok y) (Ok y') is is' e = ap Ok (is ∙ sym is')
+same_part x (Ok y) (Err f) is is' e = absurd (refusal_not_yes f (number_of (sym (e (granted 0)))))
+same_part x (Err f) (Ok y) is is' e = absurd (refusal_not_yes f (number_of (e (granted 0))))
+same_part x (Err f) (Err f') is is' e = ap Err (refusal_unique f f' (e (granted 0)))
+
+-- Of a part that hands on a value.
+pub value_unique : {A : Type 0} {ps : List (List Check)} (x : A) (r r' : Result A Refusal)
+    → Answers ps r → IfOk r (λ y. y ≡ x) → Answers ps r' → IfOk r' (λ y. y ≡ x) → r ≡ r'
+value_unique x r r' a is a' is' = same_part x r r' is is' (λ after. a.answered after ∙ sym (a'.answered after))
+
+-- Of a part that only passes.
+only_passed : (r : Result ⊤ Refusal) → IfOk r (λ y. y ≡ tt {0})
+only_passed (Ok x) = refl
+only_passed (Err f) = tt
 
 pub answers_unique : {ps : List (List Check)} (r r' : Result ⊤ Refusal) → Answers ps r → Answers ps r' → r ≡ r'
-answers_unique r r' a a' = same_part r r' (λ after. a.answered after ∙ sym (a'.answered after))
+answers_unique r r' a a' = value_unique (tt {0}) r r' a (only_passed r) a' (only_passed r')
 
 -- Every answer is that to some parts, so two parts joined have one answer.
 abbrev parts_of : Result ⊤ Refusal → List (List Check)

@@ -9,7 +9,7 @@ use crate::count::numbers;
 use crate::header::{
     BOUND, CONSTRAINTS, GATES, INPUTS, LATCHES, NODES, header_word, header_words, outline,
 };
-use crate::parts::{CHILDREN, constraint, gate, latch, limit, node};
+use crate::parts::{CHILDREN, constraint, gate, latch, limit, node, then};
 use crate::read::node_place;
 use crate::shown::Shown;
 use crate::{Outline, ProblemRecord, Refusal};
@@ -47,8 +47,10 @@ fn limits(version: u32, words: &[u32]) -> Result<(), Refusal>
     limit(words, LATCHES, 0, LATCHES_LIMIT)?;
     limit(words, GATES, 0, GATES_LIMIT)?;
     limit(words, NODES, 1, NODES_LIMIT)?;
-    limit(words, BOUND, 0, BOUND_LIMIT)?;
-    constraints_limit(version, words)
+    then(
+        limit(words, BOUND, 0, BOUND_LIMIT),
+        constraints_limit(version, words),
+    )
 }
 
 fn length(words: &[u32], s: Outline) -> Result<(), Refusal>

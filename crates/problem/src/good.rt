@@ -52,6 +52,18 @@ impl<'a> Problem<'a> {
         &self.shown
     }
 
+    // The same by value, for loops that write: what is behind a reference they read anew after each store.
+    pub fn held(&self) -> Problem<'a>
+        ensures is { result ≡ self.now }
+        ensures proper { Proper self.now }
+    {
+        Problem {
+            shown: self.shown.held(),
+            width: self.width,
+            numbers: self.numbers,
+        }
+    }
+
     // I, L, A, D, N and k. Each also tells that the problem is proper, which `Shown` does not know.
     pub fn inputs(&self) -> u32
         ensures is { result ≡ self.now.inputs }

@@ -4,7 +4,7 @@
 ghost use Rattle.std.specs.Prelude.{◌≡◌, [], ◌∷◌};
 ghost use Rattle.meaning.specs.Check.{largest_literal, gate_limit, first_right, second_right, limit_check, literal_check, reset_check, latch_checks, gate_checks, constraint_checks, node_checks};
 ghost use Rattle.problem.specs.Promise.{outline_of};
-ghost use Rattle.problem.specs.CheckParts.{Answers};
+ghost use Rattle.problem.specs.CheckParts.{Answers, Joined};
 
 use crate::read::{constraint_place, gate_place, latch_place, node_place, word_at};
 use crate::{Outline, Refusal};
@@ -16,6 +16,13 @@ const LARGEST_RESET: u32 = 2;
 const OPS: usize = 8;
 
 pub(crate) const CHILDREN: [u32; OPS] = [0, 2, 2, 1, 1, 1, 2, 2];
+
+// Two parts one after the other: the first that refuses gives the answer. Where the second is not to be judged after a refusal, a `?` joins them.
+pub fn then(first: Result<(), Refusal>, second: Result<(), Refusal>) -> Result<(), Refusal>
+    ensures { Joined first second result }
+{
+    first.and(second)
+}
 
 // The header's word at a place is within its limits.
 pub fn limit(words: &[u32], at: usize, least: u32, most: u32) -> Result<(), Refusal>

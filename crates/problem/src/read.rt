@@ -23,7 +23,7 @@ pub fn word_at(words: &[u32], at: usize) -> u32
 }
 
 // Where the words of a latch, a gate, a constraint or a node begin. A place is a `usize`, for which a `u32` has no `From`: so `as`.
-pub(crate) fn latch_place(s: Outline, i: u32) -> usize
+pub fn latch_place(s: Outline, i: u32) -> usize
     ensures { result ≡ latch_place (outline_of s) i }
 {
     let from = s.latches_from as usize;

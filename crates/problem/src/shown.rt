@@ -40,6 +40,16 @@ impl<'a> Shown<'a> {
         (self.words, self.outline)
     }
 
+    // The same, by value.
+    pub(crate) fn held(&self) -> Shown<'a>
+        ensures { result ≡ self.now }
+    {
+        Shown {
+            words: self.words,
+            outline: self.outline,
+        }
+    }
+
     // I.
     pub fn inputs(&self) -> u32
         ensures { result ≡ self.now.inputs }

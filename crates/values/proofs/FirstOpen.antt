@@ -1,8 +1,10 @@
 -- The first number whose test fails, and the length of a witness within the limits. Assumes nothing.
-use Rattle.std.proofs.Common.{◌≡◌, ℕ, zero, suc, ◌+◌, ◌-◌, ◌*◌, ◌^◌, ◌<◌, ◌≤◌, min, Bool, true, false, cond, List, length, get_or, take, drop, refl, sym, ap, ◌∙◌, suc-le-suc, zero-le, le_of_suc-le-suc, not-suc-le-zero, mod-eq_of_lt, mul-le-mul, arith, length-take, length-drop, get_or-take, get_or-drop, Option, Some, None, MatchOption}
+use Rattle.std.proofs.Common.{◌≡◌, ℕ, zero, suc, ◌+◌, ◌-◌, ◌*◌, ◌^◌, ◌<◌, ◌≤◌, min, Bool, true, false, cond, not, List, length, get_or, take, drop, refl, sym, ap, ◌∙◌, suc-le-suc, zero-le, le_of_suc-le-suc, not-suc-le-zero, mod-eq_of_lt, mul-le-mul, arith, length-take, length-drop, get_or-take, get_or-drop, Option, Some, None, MatchOption}
 use native.Mathlib.Decide.{dec_lt}
 use lib.ListN.{get_or-eq_default}
-use Rattle.meaning.specs.Problem.{Problem}
+use Rattle.std.specs.Bool.{beq}
+use Rattle.meaning.specs.Problem.{Problem, latch}
+use Rattle.meaning.specs.Runs.{literal_value}
 use Rattle.answers.specs.Lists.{numbers, all_of}
 use Rattle.answers.specs.Limits.{inputs_limit, latches_limit, bound_limit}
 use Rattle.meaning.specs.Witnesses.{witness_length}
@@ -70,13 +72,28 @@ part_has l at i {k} e = by (dec_lt (at + i) (length l))
         get_or-eq_default (take (length l - k) (drop k l)) false (simp (length-take, length-drop) (omega arith))
         ∙ sym (get_or-eq_default l false (omega arith))
 
+-- Where the opposite of a test is b, the test is the opposite of b.
+turned : {x b : Bool} → not x ≡ b → x ≡ not b
+turned {x = true} e = ap not e
+turned {x = false} e = ap not e
+
+-- A truth value equals false exactly where it does not hold.
+beq_false : (v : Bool) → beq v false ≡ not v
+beq_false true = refl
+beq_false false = refl
+
 module _ (p : Problem) (row there : List Bool) (at : ℕ) {k : ℕ} (from : k ≡ min at (length there)) where
   -- In the part from the place on.
   abbrev pub closed_in_part : ℕ → Bool
   closed_in_part = closed_at p row (take (length there - k) (drop k there)) 0
 
-  same_closed : (i : ℕ) {b : Bool} → closed_in_part i ≡ b → closed_at p row there at i ≡ b
+  -- A latch that is closed in the part is closed in the list, and one that is open is open.
+  pub same_closed : (i : ℕ) {b : Bool} → closed_in_part i ≡ b → closed_at p row there at i ≡ b
   same_closed i e = rw (part_has there at i from) at e
+
+  -- The same from the list to the part.
+  pub part_closed : (i : ℕ) {b : Bool} → closed_at p row there at i ≡ b → closed_in_part i ≡ b
+  part_closed i e = rw (part_has there at i from) e
 
   pub first_found : (n : ℕ) → n ≡ length p.latches → (r : Option ℕ)
       → MatchOption r ((i : ℕ) → 0 ≤ i → i < n → closed_in_part i ≡ true)
@@ -97,6 +114,56 @@ module _ (p : Problem) (row there : List Bool) (at : ℕ) {k : ℕ} (from : k �
     }),
     omega (arith, one.1),
   )
+
+  -- A latch's next value.
+  abbrev pub value_of : ℕ → Bool
+  value_of i = literal_value row (latch p i).next
+
+  -- A test of a latch's next value against what a cut of the part has for it says whether the latch is closed.
+  pub tested : (m i : ℕ) {v b : Bool} → i < length (take m (take (length there - k) (drop k there)))
+      → v ≡ value_of i
+      → not (beq v (get_or (take m (take (length there - k) (drop k there))) i false)) ≡ b
+      → closed_in_part i ≡ not b
+  tested m i h e t =
+      let cut = get_or-take m (take (length there - k) (drop k there)) i false (omega (arith, length-take {A = Bool})) in
+      let same : 0 + i ≡ i = omega arith in
+      rw same (turned (rw (e, cut) at t))
+
+  -- Past the part's end a latch is closed where its next value is false.
+  past_part : {i : ℕ} → length (take (length there - k) (drop k there)) ≤ i → {v : Bool} → value_of i ≡ v → closed_in_part i ≡ not v
+  past_part {i} h {v} e =
+      let none : get_or (take (length there - k) (drop k there)) (0 + i) false ≡ false = get_or-eq_default _ false {n = 0 + i} (omega arith) in
+      rw (e, none) (beq_false v)
+
+  -- Where the latches below m are closed and the part ends at m, or no latch is left there, the first from m on whose next value is true is the first open one.
+  pub found_past : {m n : ℕ} → ((j : ℕ) → j < m → closed_at p row there at j ≡ true)
+      → (m < n → length (take (length there - k) (drop k there)) ≤ m)
+      → n ≡ length p.latches
+      → (r : Option ℕ)
+      → MatchOption r ((i : ℕ) → m ≤ i → i < n → value_of i ≡ false)
+      (λ i. (m ≤ i) × (i < n) × (value_of i ≡ true) × ((j : ℕ) → m ≤ j → j < i → value_of j ≡ false))
+      → MatchOption r (first_open p row there at ≡ length p.latches) (λ i. (i ≡ first_open p row there at) × (i < length p.latches))
+  found_past {m} {n} below past e r found = first_found n e r (wide r found)
+    where
+      closed : (j : ℕ) → (m ≤ j → value_of j ≡ false) → j < n → closed_in_part j ≡ true
+      closed j v h = by (dec_lt j m)
+        where
+          by : Dec (j < m) → closed_in_part j ≡ true
+          by (yes l) = part_closed j (below j l)
+          by (no l) = past_part (let t = past (omega arith) in omega arith) (v (omega arith))
+
+      wide : (r : Option ℕ)
+          → MatchOption r ((i : ℕ) → m ≤ i → i < n → value_of i ≡ false)
+          (λ i. (m ≤ i) × (i < n) × (value_of i ≡ true) × ((j : ℕ) → m ≤ j → j < i → value_of j ≡ false))
+          → MatchOption r ((i : ℕ) → 0 ≤ i → i < n → closed_in_part i ≡ true)
+          (λ i. (0 ≤ i) × (i < n) × (closed_in_part i ≡ false) × ((j : ℕ) → 0 ≤ j → j < i → closed_in_part j ≡ true))
+      wide None all = λ i z h. closed i (λ l. all i l h) h
+      wide (Some i) one = (
+        zero-le,
+        one.1,
+        past_part (let t = past (omega (arith, one.0, one.1)) in omega (arith, one.0)) one.2,
+        λ j z h. closed j (λ l. one.3 j l h) (omega (arith, one.1)),
+      )
 
 -- ════════ The length of a witness ════════
 

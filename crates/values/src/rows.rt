@@ -24,6 +24,9 @@ pub const ROWS: usize = POSITIONS * ROW_WIDTH;
 // Variable 0 comes before the inputs.
 pub const INPUTS_AT: usize = 1;
 
+// How many gates are valued in one turn of the loop over them.
+const TOGETHER: usize = 8;
+
 // The value of a literal in a row; a variable that the row does not have is false. No branch on a value: nothing foretells it, and a wrong
 // guess costs more than the value.
 pub fn literal(row: &[bool], x: u32) -> bool
@@ -72,14 +75,22 @@ pub fn copy(bits: &[bool], count: u32, table: &mut [bool], at: usize)
     }
 }
 
-// The gates of a row, each over the variables before it; those that the row has no room for are left out.
+// The gates of a row, each over the variables before it; those that the row has no room for are left out. Most are valued so many in a turn:
+// that loop has a fixed number of turns, which compiling lays out one after another, so that what a turn costs is paid once for all of them.
 pub fn gates(p: &Shown, row: &mut [bool])
     ensures { row.new ≡ gates_put p.now.gates (given_width p.now) row.old }
 {
     let (words, s) = p.parts();
     let at = gates_at(p);
     let count = row.len().saturating_sub(at).min(p.gates() as usize);
-    for j in 0..count {
-        row[at + j] = gate(words, s, row, j as u32);
+    let turns = count / TOGETHER;
+    for turn in 0..turns {
+        let from = turn * TOGETHER;
+        for j in from..from + TOGETHER {
+            row[at + j] = gate(words, s, row, j as u32);
+        }
+    }
+    for k in turns * TOGETHER..count {
+        row[at + k] = gate(words, s, row, k as u32);
     }
 }

@@ -9,7 +9,7 @@ returns-then-room-numbers c =
 
 pub all_items-requires : goal.all_items-requires
 all_items-requires c =
-    room_suffices c.args.p.now (ap (λ n. n.words) c.counts-numbers.ensures.is) c.if-room-numbers.false
+    rw c.held.ensures.is (room_suffices c.args.p.now (ap (λ n. n.words) c.counts-numbers.ensures.is) c.if-room-numbers.false)
 
 pub returns : goal.returns
-returns c = all_written c.args.p.now c.counts-numbers.ensures.is c.all_items.ensures
+returns c = all_written c.args.p.now c.counts-numbers.ensures.is (rw c.held.ensures.is at c.all_items.ensures)

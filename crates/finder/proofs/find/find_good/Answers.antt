@@ -21,19 +21,19 @@ unfolding search_limit
 returns-in_default c =
     let needed = (rw c.shown.ensures.is at c.witness_length-needed.ensures) ∙ length_is _ c.shown.ensures.proper.inputs_within c.shown.ensures.proper.latches_within c.shown.ensures.proper.bound_within in
     let runs = all_runs c.open_bytes-bits.ensures c.if-bits-gt-SEARCH_LIMIT.false in
-    let none = none_found c.args.p.now c.args.room.now (best_is_none c.shown.ensures.proper (rw runs at c.in_default.ensures)) in
+    let none = none_found c.args.p.now c.args.room.now (best_is_none c.shown.ensures.proper (rw (c.held.ensures.is, runs) at c.in_default.ensures)) in
     searched c.args.p.now c.open_bytes-bits.ensures c.if-bits-gt-SEARCH_LIMIT.false needed c.if-room-needed.false none.0 none.1
 
 pub write-requires : goal.write-requires
 write-requires c =
     let needed = (rw c.shown.ensures.is at c.witness_length-needed.ensures) ∙ length_is _ c.shown.ensures.proper.inputs_within c.shown.ensures.proper.latches_within c.shown.ensures.proper.bound_within in
-    (c.in-Some.ensures.within, omega (arith, needed, c.if-room-needed.false))
+    ((rw c.held.ensures.is at c.in-Some.ensures).within, omega (arith, needed, c.if-room-needed.false))
 
 pub returns : goal.returns
 unfolding search_limit
 returns c =
     let needed = (rw c.shown.ensures.is at c.witness_length-needed.ensures) ∙ length_is _ c.shown.ensures.proper.inputs_within c.shown.ensures.proper.latches_within c.shown.ensures.proper.bound_within in
     let runs = all_runs c.open_bytes-bits.ensures c.if-bits-gt-SEARCH_LIMIT.false in
-    let first = best_is_first c.shown.ensures.proper (rw runs at c.in-Some.ensures) in
+    let first = best_is_first c.shown.ensures.proper (rw (c.held.ensures.is, runs) at c.in-Some.ensures) in
     let one = one_found c.args.p.now c.args.room.now first.1 needed c.write.ensures in
     searched c.args.p.now c.open_bytes-bits.ensures c.if-bits-gt-SEARCH_LIMIT.false needed c.if-room-needed.false one.0 one.1
