@@ -4,6 +4,7 @@ use Rattle.meaning.specs.Problem.{Problem}
 use Rattle.problem.specs.declared.Outline.{Outline}
 use Rattle.problem.specs.Promise.{problem_in}
 use Rattle.problem.proofs.Outlines.{shows}
+use Rattle.values.specs.declared.rows.TheConstants.{TOGETHER}
 use Rattle.values.proofs.RowGates.{no_gates, one_gate, all_gates}
 use Rattle.values.proofs.rows.gates.Goals as goal
 
@@ -29,12 +30,12 @@ loop-j-preserved c =
 
 pub loop-turn-preserved : goal.loop-turn-preserved
 loop-turn-preserved c =
-    let end : c.loop-j.j ≡ (c.loop-turn.turn + 1) * 8 = omega arith in
+    let end : c.loop-j.j ≡ (c.loop-turn.turn + 1) * TOGETHER = omega arith in
     rw end at c.loop-j.invariant
 
 pub loop-k-init : goal.loop-k-init
 loop-k-init c =
-    let end : c.loop-turn.turn ≡ c.min-count.result / 8 = omega arith in
+    let end : c.loop-turn.turn ≡ c.min-count.result / TOGETHER = omega arith in
     rw end at c.loop-turn.invariant
 
 pub gate-requires-in-loop-k : goal.gate-requires-in-loop-k
